@@ -1,0 +1,61 @@
+-- Laws of rules and verdicts. Assumes nothing.
+use mathlib.Core.Path.{_≡_, refl}
+use mathlib.Core.Bool.{Bool, true, false}
+use mathlib.Core.List.{List, [], _∷_, _++_}
+use Prim.Native.Nat.{ℕ}
+use native.Mathlib.Omega.{arith}
+use Rattle.verdict.specs.Rules.{Rule, holds, numberOf, placeOf, Verdict, sound, broken, orBroken, firstBroken}
+
+-- a rule that holds is passed over, and one that doesn't decides
+module _ (r : Rule) (rs : List Rule) where
+  pub first-holds : holds r ≡ true → firstBroken (r ∷ rs) ≡ firstBroken rs
+  unfolding firstBroken
+  first-holds e = rw e
+
+  pub first-breaks : holds r ≡ false → firstBroken (r ∷ rs) ≡ broken (numberOf r) (placeOf r)
+  unfolding firstBroken
+  first-breaks e = rw e
+
+-- rules, and then more rules: the later ones count where the earlier ones hold
+abbrev pub andThen : Verdict → Verdict → Verdict
+andThen sound w = w
+andThen (broken n p) w = broken n p
+
+or-then : (t : Bool) (n p : ℕ) (v w : Verdict) → orBroken t n p (andThen v w) ≡ andThen (orBroken t n p v) w
+or-then true n p v w = refl
+or-then false n p v w = refl
+
+pub first-append : (rs qs : List Rule) → firstBroken (rs ++ qs) ≡ andThen (firstBroken rs) (firstBroken qs)
+unfolding firstBroken
+first-append [] qs = refl
+first-append (r ∷ rs) qs = rw (first-append rs qs) (or-then (holds r) (numberOf r) (placeOf r) (firstBroken rs) (firstBroken qs))
+
+pub then-sound : (rs qs : List Rule) → firstBroken rs ≡ sound → firstBroken (rs ++ qs) ≡ firstBroken qs
+then-sound rs qs e = rw (first-append rs qs, e)
+
+pub then-broken : (rs qs : List Rule) (n p : ℕ) → firstBroken rs ≡ broken n p → firstBroken (rs ++ qs) ≡ broken n p
+then-broken rs qs n p e = rw (first-append rs qs, e)
+
+-- all rules hold
+abbrev pub Held : List Rule → Type 0
+Held [] = Unit {0}
+Held (r ∷ rs) = (holds r ≡ true) × Held rs
+
+-- where none is broken all hold, and the other way round
+pub sound-held : (rs : List Rule) → firstBroken rs ≡ sound → Held rs
+unfolding firstBroken
+sound-held [] e = tt
+sound-held (r ∷ rs) e = go (holds r) refl (sound-held rs) e
+  where
+    go : (t : Bool) → holds r ≡ t → (firstBroken rs ≡ sound → Held rs) → orBroken t (numberOf r) (placeOf r) (firstBroken rs) ≡ sound → (holds r ≡ true) × Held rs
+    go true q ih f = (q, ih f)
+    go false q ih f = let z : _≡_ {A = ℕ} 0 1 = cc in absurd (omega arith)
+
+pub held-sound : (rs : List Rule) → Held rs → firstBroken rs ≡ sound
+unfolding firstBroken
+held-sound [] h = refl
+held-sound (r ∷ rs) h = rw (h .0) (held-sound rs (h .1))
+
+pub held-parts : (rs qs : List Rule) → Held (rs ++ qs) → Held rs × Held qs
+held-parts [] qs h = (tt, h)
+held-parts (r ∷ rs) qs h = let q = held-parts rs qs (h .1) in ((h .0, q .0), q .1)
