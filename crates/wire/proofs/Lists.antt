@@ -1,13 +1,12 @@
 -- Laws of lists and their parts that the kit's library doesn't have. Assumes nothing.
-use mathlib.Core.Path.{_≡_, refl, ap}
+use mathlib.Core.Path.{_≡_, ap}
 use mathlib.Core.List.{List, [], _∷_, _++_}
 use Prim.Native.Nat.{ℕ, zero, suc, _+_, _-_, _≤_, _<_}
-use native.Mathlib.Nat.{sub-zero, zero-sub, suc-sub-suc, zero-add, suc-add, add-zero}
+use native.Mathlib.Nat.{sub-zero, zero-sub, suc-sub-suc}
 use native.Mathlib.Omega.{arith}
-use native.Mathlib.Decide.{decLt}
-use lib.ListN.{length, getD, take, drop, List·getD-eq-default}
+use lib.ListN.{length, getD, take, drop}
 use lib.Dec.{lit<}
-use lib.Seq.{take-nil, drop-nil, getD-take, getD-drop, take-all}
+use lib.Seq.{take-nil, getD-drop}
 use Rattle.wire.specs.Wire.{Bytes}
 
 module _ {A : Type 0} where
