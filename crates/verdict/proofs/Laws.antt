@@ -2,9 +2,10 @@
 use mathlib.Core.Path.{_≡_, refl}
 use mathlib.Core.Bool.{Bool, true, false}
 use mathlib.Core.List.{List, [], _∷_, _++_}
-use Prim.Native.Nat.{ℕ}
+use Prim.Native.Nat.{ℕ, _≤_, _<_}
+use borrow.Author.Tests.{le-leb, lt-leb, eq-eqb, ne-eqb}
 use native.Mathlib.Omega.{arith}
-use Rattle.verdict.specs.Rules.{Rule, holds, numberOf, placeOf, Verdict, sound, broken, orBroken, firstBroken}
+use Rattle.verdict.specs.Rules.{Rule, flag, equal, atLeast, atMost, holds, numberOf, placeOf, Verdict, sound, broken, orBroken, firstBroken}
 
 -- a rule that holds is passed over, and one that doesn't decides
 module _ (r : Rule) (rs : List Rule) where
@@ -15,6 +16,41 @@ module _ (r : Rule) (rs : List Rule) where
   pub first-breaks : holds r ≡ false → firstBroken (r ∷ rs) ≡ broken (numberOf r) (placeOf r)
   unfolding firstBroken
   first-breaks e = rw e
+
+-- each kind of rule, by the numbers that it compares
+module _ (n p : ℕ) (rs : List Rule) where
+  pub flag-holds : (b : Bool) → b ≡ true → firstBroken (flag n p b ∷ rs) ≡ firstBroken rs
+  unfolding holds
+  flag-holds b e = first-holds (flag n p b) rs e
+
+  pub flag-breaks : (b : Bool) → b ≡ false → firstBroken (flag n p b ∷ rs) ≡ broken n p
+  unfolding holds numberOf placeOf
+  flag-breaks b e = first-breaks (flag n p b) rs e
+
+  module _ (x y : ℕ) where
+    pub equal-holds : x ≡ y → firstBroken (equal n p x y ∷ rs) ≡ firstBroken rs
+    unfolding holds
+    equal-holds e = first-holds (equal n p x y) rs (eq-eqb x y e)
+
+    pub equal-breaks : (x ≡ y → ⊥) → firstBroken (equal n p x y ∷ rs) ≡ broken n p
+    unfolding holds numberOf placeOf
+    equal-breaks e = first-breaks (equal n p x y) rs (ne-eqb x y e)
+
+    pub least-holds : y ≤ x → firstBroken (atLeast n p x y ∷ rs) ≡ firstBroken rs
+    unfolding holds
+    least-holds h = first-holds (atLeast n p x y) rs (le-leb y x h)
+
+    pub least-breaks : x < y → firstBroken (atLeast n p x y ∷ rs) ≡ broken n p
+    unfolding holds numberOf placeOf
+    least-breaks h = first-breaks (atLeast n p x y) rs (lt-leb y x h)
+
+    pub most-holds : x ≤ y → firstBroken (atMost n p x y ∷ rs) ≡ firstBroken rs
+    unfolding holds
+    most-holds h = first-holds (atMost n p x y) rs (le-leb x y h)
+
+    pub most-breaks : y < x → firstBroken (atMost n p x y ∷ rs) ≡ broken n p
+    unfolding holds numberOf placeOf
+    most-breaks h = first-breaks (atMost n p x y) rs (lt-leb x y h)
 
 -- rules, and then more rules: the later ones count where the earlier ones hold
 abbrev pub andThen : Verdict → Verdict → Verdict
