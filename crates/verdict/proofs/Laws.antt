@@ -1,11 +1,11 @@
 -- Laws of rules and verdicts. Assumes nothing.
 use mathlib.Core.Path.{_≡_, refl}
-use mathlib.Core.Bool.{Bool, true, false}
+use mathlib.Core.Bool.{Bool, true, false, cond}
 use mathlib.Core.List.{List, [], _∷_, _++_}
 use Prim.Native.Nat.{ℕ, _≤_, _<_}
 use borrow.Author.Tests.{le-leb, lt-leb, eq-eqb, ne-eqb}
 use native.Mathlib.Omega.{arith}
-use Rattle.verdict.specs.Rules.{Rule, flag, equal, atLeast, atMost, holds, numberOf, placeOf, Verdict, sound, broken, orBroken, firstBroken}
+use Rattle.verdict.specs.Rules.{Rule, flag, equal, atLeast, atMost, holds, numberOf, placeOf, Verdict, sound, broken, firstBroken}
 
 -- a rule that holds is passed over, and one that doesn't decides
 module _ (r : Rule) (rs : List Rule) where
@@ -57,14 +57,14 @@ abbrev pub andThen : Verdict → Verdict → Verdict
 andThen sound w = w
 andThen (broken n p) w = broken n p
 
-or-then : (t : Bool) (n p : ℕ) (v w : Verdict) → orBroken t n p (andThen v w) ≡ andThen (orBroken t n p v) w
-or-then true n p v w = refl
-or-then false n p v w = refl
+cond-then : (t : Bool) (n p : ℕ) (v w : Verdict) → cond t (andThen v w) (broken n p) ≡ andThen (cond t v (broken n p)) w
+cond-then true n p v w = refl
+cond-then false n p v w = refl
 
 pub first-append : (rs qs : List Rule) → firstBroken (rs ++ qs) ≡ andThen (firstBroken rs) (firstBroken qs)
 unfolding firstBroken
 first-append [] qs = refl
-first-append (r ∷ rs) qs = rw (first-append rs qs) (or-then (holds r) (numberOf r) (placeOf r) (firstBroken rs) (firstBroken qs))
+first-append (r ∷ rs) qs = rw (first-append rs qs) (cond-then (holds r) (numberOf r) (placeOf r) (firstBroken rs) (firstBroken qs))
 
 pub then-sound : (rs qs : List Rule) → firstBroken rs ≡ sound → firstBroken (rs ++ qs) ≡ firstBroken qs
 then-sound rs qs e = rw (first-append rs qs, e)
@@ -83,7 +83,7 @@ unfolding firstBroken
 sound-held [] e = tt
 sound-held (r ∷ rs) e = go (holds r) refl (sound-held rs) e
   where
-    go : (t : Bool) → holds r ≡ t → (firstBroken rs ≡ sound → Held rs) → orBroken t (numberOf r) (placeOf r) (firstBroken rs) ≡ sound → (holds r ≡ true) × Held rs
+    go : (t : Bool) → holds r ≡ t → (firstBroken rs ≡ sound → Held rs) → cond t (firstBroken rs) (broken (numberOf r) (placeOf r)) ≡ sound → (holds r ≡ true) × Held rs
     go true q ih f = (q, ih f)
     go false q ih f = let z : _≡_ {A = ℕ} 0 1 = cc in absurd (omega arith)
 

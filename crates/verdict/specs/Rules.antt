@@ -1,6 +1,6 @@
 -- Rules as data: document 01 gives checks as ordered sentences, each with a number and a place. Assumes nothing.
 use Prim.Native.Nat.{ℕ}
-use mathlib.Core.Bool.{Bool, true, false}
+use mathlib.Core.Bool.{Bool, cond}
 use mathlib.Core.List.{List, [], _∷_}
 use lib.Dec.{leb, eqb}
 
@@ -35,13 +35,9 @@ pub data Verdict : Type 0 where
   sound : Verdict
   broken : (number place : ℕ) → Verdict
 
-abbrev pub orBroken : Bool → ℕ → ℕ → Verdict → Verdict
-orBroken true n p v = v
-orBroken false n p v = broken n p
-
 unfoldable pub firstBroken : List Rule → Verdict
 firstBroken [] = sound
-firstBroken (r ∷ rs) = orBroken (holds r) (numberOf r) (placeOf r) (firstBroken rs)
+firstBroken (r ∷ rs) = cond (holds r) (firstBroken rs) (broken (numberOf r) (placeOf r))
 
 -- what a call hands back: what it gives, or the number and the place of its refusal
 pub data Outcome (A : Type 0) : Type 0 where

@@ -1,6 +1,6 @@
 -- Laws of the comparison of two lists. Assumes nothing.
 use mathlib.Core.Path.{_≡_, refl, sym, ap, _∙_}
-use mathlib.Core.Bool.{Bool, true, false}
+use mathlib.Core.Bool.{Bool, true, false, _&&_}
 use mathlib.Core.List.{List, [], _∷_}
 use Prim.Native.Nat.{ℕ, zero, suc, _+_, _-_, _≤_, _<_}
 use native.Mathlib.Nat.{add-zero, sub-zero}
@@ -10,7 +10,7 @@ use lib.Dec.{eqb}
 use lib.ListN.{length, getD, length-take, length-drop, drop-of-length-le}
 use lib.Seq.{drop-cons}
 use borrow.Author.Tests.{eq-eqb, ne-eqb, eqb-true}
-use Rattle.wire.specs.Wire.{both, same, part}
+use Rattle.wire.specs.Wire.{same, part}
 use Rattle.wire.specs.Inner.{restSame, Agreeing}
 
 -- the comparison tells exactly whether two lists are equal
@@ -26,7 +26,7 @@ same-equal [] (y ∷ t) e = let z : _≡_ {A = ℕ} 0 1 = cc in absurd (omega ar
 same-equal (x ∷ s) [] e = let z : _≡_ {A = ℕ} 0 1 = cc in absurd (omega arith)
 same-equal (x ∷ s) (y ∷ t) e = go (eqb x y) refl (same-equal s t) e
   where
-    go : (b : Bool) → eqb x y ≡ b → (same s t ≡ true → s ≡ t) → both b (same s t) ≡ true → x ∷ s ≡ y ∷ t
+    go : (b : Bool) → eqb x y ≡ b → (same s t ≡ true → s ≡ t) → (b && same s t) ≡ true → x ∷ s ≡ y ∷ t
     go true q ih e = rw (eqb-true x y q, ih e)
     go false q ih e = let z : _≡_ {A = ℕ} 0 1 = cc in absurd (omega arith)
 
@@ -38,13 +38,13 @@ same-short [] (y ∷ t) h = refl
 same-short (x ∷ s) [] h = absurd (omega (arith, h))
 same-short (x ∷ s) (y ∷ t) h = go (eqb x y) (same-short s t (omega (arith, h)))
   where
-    go : (b : Bool) → same s t ≡ false → both b (same s t) ≡ false
+    go : (b : Bool) → same s t ≡ false → (b && same s t) ≡ false
     go true e = e
     go false e = refl
 
 module _ (s : List ℕ) (at : ℕ) (xs : List ℕ) (i : ℕ) (fits : length xs ≤ length s - at) (more : i < length xs) where
   -- the next byte, and the rest behind it
-  rest-next : restSame s at xs i ≡ both (eqb (getD s (at + i) 0) (getD xs i 0)) (restSame s at xs (i + 1))
+  rest-next : restSame s at xs i ≡ (eqb (getD s (at + i) 0) (getD xs i 0) && restSame s at xs (i + 1))
   unfolding same
   rest-next =
       let e : length xs - i ≡ suc (length xs - (i + 1)) = omega arith in
@@ -53,10 +53,10 @@ module _ (s : List ℕ) (at : ℕ) (xs : List ℕ) (i : ℕ) (fits : length xs �
       rw (e, f, add-one i, drop-cons s (at + i) 0 h, drop-cons xs i 0 more)
 
   pub rest-agrees : getD s (at + i) 0 ≡ getD xs i 0 → restSame s at xs (i + 1) ≡ restSame s at xs i
-  rest-agrees e = sym (rest-next ∙ ap (λ (b : Bool). both b (restSame s at xs (i + 1))) (eq-eqb _ _ e))
+  rest-agrees e = sym (rest-next ∙ ap (λ (b : Bool). b && restSame s at xs (i + 1)) (eq-eqb _ _ e))
 
   pub rest-differs : (getD s (at + i) 0 ≡ getD xs i 0 → ⊥) → restSame s at xs i ≡ false
-  rest-differs e = rest-next ∙ ap (λ (b : Bool). both b (restSame s at xs (i + 1))) (ne-eqb _ _ e)
+  rest-differs e = rest-next ∙ ap (λ (b : Bool). b && restSame s at xs (i + 1)) (ne-eqb _ _ e)
 
 -- a run of bytes that agree
 pub rest-run : (w : ℕ) (s : List ℕ) (at : ℕ) (xs : List ℕ) (i : ℕ) → length xs ≤ length s - at → i + w ≤ length xs

@@ -1,0 +1,5 @@
+-- The laws of varints. Assumes nothing.
+pub mod Answers
+pub mod Codec
+pub mod Decoding
+pub mod Encoding

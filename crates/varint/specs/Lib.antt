@@ -1,0 +1,3 @@
+-- The definitions of varints. Assumes nothing.
+pub mod Varint
+pub mod Answer
