@@ -1,0 +1,19 @@
+-- `crc32::checksum` meets its contract. Assumes nothing.
+use mathlib.Core.Path.{_∙_}
+use native.Mathlib.Omega.{arith}
+use Rattle.crc32.proofs.Tabled.{tabled}
+use borrow.Author.Needs.{needs}
+use Rattle.crc32.proofs.checksum.Statement.{statement}
+use Rattle.crc32.proofs.checksum.Tie as tie
+
+returns : tie.Need-returns
+returns c =
+    let known = c .before .before .before in
+    let made = c .before .before .tables in
+    c .checksum-with .ensures
+    ∙ tabled (made .result) (known .before .args .s .now) (made .ensures) (λ i. omega (arith, known .shared-slice-known .given i))
+
+pub checksum-spec : {M : Type 1} → statement M
+checksum-spec =
+    tie.close
+    (tie.spec (λ c κs. search needs) (λ c κs. search needs) returns)
