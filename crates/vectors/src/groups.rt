@@ -1,6 +1,7 @@
 // The groups of cases: what the library answers to an input, and how many answers agree.
+ghost use Rattle.io.specs.Counts.{Counts};
+use crate::text;
 use libc::STDOUT_FILENO;
-use text::Text;
 use varint::Decoded;
 
 pub enum Group {
@@ -10,66 +11,74 @@ pub enum Group {
     Unknown,
 }
 
-fn is(a: &[u8], b: &[u8]) -> bool {
-    if a.len() != b.len() {
-        return false;
-    }
-    wire::same_at(a, 0, b)
-}
-
 pub fn named(name: &[u8]) -> Group {
-    if is(name, b"crc32") {
+    if text::is(name, b"crc32") {
         return Group::Crc32;
     }
-    if is(name, b"utf8") {
+    if text::is(name, b"utf8") {
         return Group::Utf8;
     }
-    if is(name, b"varint") {
+    if text::is(name, b"varint") {
         return Group::Varint;
     }
     Group::Unknown
 }
 
-fn crc32_answer(s: &[u8]) -> Text {
-    text::with_hex(text::empty(), crc32::checksum(s) as u64, 8)
+fn crc32_answer(s: &[u8], out: &mut [u8]) -> usize
+    ensures { λ r. ⌜ Counts r (now (out .exit)) ⌝ }
+{
+    text::with_hex(out, 0, crc32::checksum(s) as u64, 8)
 }
 
-fn utf8_answer(s: &[u8]) -> Text {
+fn utf8_answer(s: &[u8], out: &mut [u8]) -> usize
+    ensures { λ r. ⌜ Counts r (now (out .exit)) ⌝ }
+{
     if utf8::valid(s) {
-        return text::with(text::empty(), b"valid");
+        return text::with(out, 0, b"valid");
     }
-    text::with(text::empty(), b"invalid")
+    text::with(out, 0, b"invalid")
 }
 
 // A varint's value, the position behind it, and the value's shortest form.
-fn spelled(value: u64, next: usize) -> Text {
-    let mut form = [0u8; 16];
-    varint::encode_at(&mut form, 0, value);
-    let n = varint::encoded_len(value);
-    let a = text::with_decimal(text::empty(), value);
-    let b = text::with_decimal(text::with(a, b" "), next as u64);
-    let c = text::with(b, b" ");
-    if 16 < n {
-        return c;
-    }
-    text::with_bytes(c, &form[..n])
+fn spelled(value: u64, next: usize, out: &mut [u8]) -> usize
+    ensures { λ r. ⌜ Counts r (now (out .exit)) ⌝ }
+{
+    let a = text::with_decimal(out, 0, value);
+    let b = text::with(out, a, b" ");
+    let c = text::with_decimal(out, b, next as u64);
+    let d = text::with(out, c, b" ");
+    let mut form = [0u8; 10];
+    let n = shortest(value, &mut form);
+    text::with_bytes(out, d, &form[..n])
 }
 
-fn varint_answer(s: &[u8]) -> Text {
+fn shortest(value: u64, form: &mut [u8]) -> usize
+    ensures { λ r. ⌜ Counts r (now (form .exit)) ⌝ }
+{
+    varint::encode_at(form, 0, value);
+    text::reach(&*form, 0, varint::encoded_len(value))
+}
+
+fn varint_answer(s: &[u8], out: &mut [u8]) -> usize
+    ensures { λ r. ⌜ Counts r (now (out .exit)) ⌝ }
+{
     let d = varint::decode_at(s, 0);
     match d {
-        Decoded::Value(value, next) => spelled(value, next),
-        Decoded::Cut => text::with(text::empty(), b"cut"),
-        Decoded::Malformed => text::with(text::empty(), b"malformed"),
+        Decoded::Value(value, next) => spelled(value, next, out),
+        Decoded::Cut => text::with(out, 0, b"cut"),
+        Decoded::Malformed => text::with(out, 0, b"malformed"),
     }
 }
 
-pub fn answer(group: Group, s: &[u8]) -> Text {
+// Puts the library's answer to an input into a buffer, and says how long it is.
+pub fn answer(group: Group, s: &[u8], out: &mut [u8]) -> usize
+    ensures { λ r. ⌜ Counts r (now (out .exit)) ⌝ }
+{
     match group {
-        Group::Crc32 => crc32_answer(s),
-        Group::Utf8 => utf8_answer(s),
-        Group::Varint => varint_answer(s),
-        Group::Unknown => text::with(text::empty(), b"no such group"),
+        Group::Crc32 => crc32_answer(s, out),
+        Group::Utf8 => utf8_answer(s, out),
+        Group::Varint => varint_answer(s, out),
+        Group::Unknown => text::with(out, 0, b"no such group"),
     }
 }
 

@@ -9,36 +9,40 @@
 mod groups;
 mod text;
 
-use groups::Group;
 use groups::Tally;
 use libc::STDIN_FILENO;
 use libc::STDOUT_FILENO;
-use text::Text;
 
 // Prints a case that doesn't agree, and the answer that it got.
-fn complain(line: &[u8], got: Text) {
+fn complain(line: &[u8], got: &[u8]) {
     io::write_all(STDOUT_FILENO, b"differs: ");
     io::write_all(STDOUT_FILENO, line);
     io::write_all(STDOUT_FILENO, b"\n    got: ");
-    text::print(got);
+    io::write_all(STDOUT_FILENO, got);
     io::write_all(STDOUT_FILENO, b"\n");
 }
 
-// One case, and the tally with it.
-fn judge(line: &[u8], tally: Tally) -> Tally {
-    let a = text::find(line, 0, b' ');
-    let group = groups::named(&line[..a]);
-    let b = text::find(line, text::past(line, a), b' ');
-    let c = text::past(line, b);
-    let from = text::past(line, a);
+// The case of a group's name, an input and the answer that it must have, with the line that they are from.
+fn judge(line: &[u8], name: &[u8], input: &[u8], wanted: &[u8], tally: Tally) -> Tally {
+    let group = groups::named(name);
     let mut bytes = io::buffer();
-    let n = text::unhex(&line[from..b], &mut bytes);
-    let got = groups::answer(group, &bytes[..n]);
-    let agrees = text::reads(got, &line[c..]);
+    let n = text::unhex(input, &mut bytes);
+    let mut out = io::buffer();
+    let k = groups::answer(group, &bytes[..n], &mut out);
+    let agrees = text::is(&out[..k], wanted);
     if !agrees {
-        complain(line, got);
+        complain(line, &out[..k]);
     }
     groups::counted(tally, group, agrees)
+}
+
+// A line's words: up to the first space, up to the second, and the rest.
+fn parse(line: &[u8], tally: Tally) -> Tally {
+    let a = text::find(line, 0, b' ');
+    let b = text::past(line, a);
+    let c = text::find(line, b, b' ');
+    let d = text::past(line, c);
+    judge(line, &line[..a], &line[b..c], &line[d..], tally)
 }
 
 fn is_case(line: &[u8]) -> bool {
@@ -56,7 +60,7 @@ fn run(input: &[u8]) -> Tally {
         let end = text::find(input, at, b'\n');
         let line = &input[at..end];
         if is_case(line) {
-            tally = judge(line, tally);
+            tally = parse(line, tally);
         }
         at = text::past(input, end);
     }

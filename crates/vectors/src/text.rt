@@ -1,91 +1,69 @@
-// Text in a small buffer, and words in lines.
+// Text in a buffer, and words in a line.
 ghost use mathlib.Core.Path.{_≡_};
 ghost use Prim.Native.Nat.{_+_, _≤_, _<_, min};
 ghost use lib.ListN.{length};
+ghost use Rattle.io.specs.Counts.{Counts};
 
-use libc::STDOUT_FILENO;
-
-// An answer as text. What doesn't fit is left out, so that it agrees with nothing.
-pub struct Text {
-    pub bytes: [u8; 64],
-    pub len: usize,
-}
-
-pub fn empty() -> Text {
-    Text {
-        bytes: [0; 64],
-        len: 0,
+// How far a text of n bytes from a place on reaches in a buffer.
+pub fn reach(out: &[u8], at: usize, n: usize) -> usize
+    ensures { λ r. ⌜ Counts r (now (out .entry)) ⌝ }
+{
+    if out.len() <= at {
+        return out.len();
     }
-}
-
-pub fn with_byte(t: Text, b: u8) -> Text {
-    let at = t.len;
-    if 64 <= at {
-        return t;
+    if n < out.len() - at {
+        return at + n;
     }
-    let mut next = t;
-    next.bytes[at] = b;
-    next.len = at + 1;
-    next
+    out.len()
 }
 
-pub fn with(t: Text, s: &[u8]) -> Text {
-    let mut next = t;
-    let mut i = 0;
-    while i < s.len() {
-        next = with_byte(next, s[i]);
-        i += 1;
-    }
-    next
+// Puts s into a buffer from a place on, as much as fits, and says where it ends: here and below a text that doesn't fit is cut off.
+pub fn with(out: &mut [u8], at: usize, s: &[u8]) -> usize
+    ensures { λ r. ⌜ Counts r (now (out .exit)) ⌝ }
+{
+    wire::copy_at(out, at, s);
+    reach(&*out, at, s.len())
 }
 
-pub fn with_decimal(t: Text, n: u64) -> Text {
+pub fn with_decimal(out: &mut [u8], at: usize, n: u64) -> usize
+    ensures { λ r. ⌜ Counts r (now (out .exit)) ⌝ }
+{
     let mut digits = [0u8; 20];
     let k = io::decimal(n, &mut digits);
-    with(t, &digits[..k])
+    with(out, at, &digits[..k])
 }
 
-pub fn with_hex(t: Text, n: u64, width: usize) -> Text {
+pub fn with_hex(out: &mut [u8], at: usize, n: u64, width: usize) -> usize
+    ensures { λ r. ⌜ Counts r (now (out .exit)) ⌝ }
+{
     let mut digits = [0u8; 16];
     let k = io::hex(n, width, &mut digits);
-    with(t, &digits[..k])
-}
-
-// The bytes of s, two hexadecimal digits each.
-pub fn with_bytes(t: Text, s: &[u8]) -> Text {
-    let mut next = t;
-    let mut i = 0;
-    while i < s.len() {
-        next = with_hex(next, wide(s[i]), 2);
-        i += 1;
-    }
-    next
+    with(out, at, &digits[..k])
 }
 
 fn wide(x: u8) -> u64 {
     x as u64
 }
 
-// Whether a text is the one given.
-pub fn reads(t: Text, s: &[u8]) -> bool {
-    let n = t.len;
-    if n != s.len() {
-        return false;
+// The bytes of s, two hexadecimal digits each.
+pub fn with_bytes(out: &mut [u8], at: usize, s: &[u8]) -> usize
+    ensures { λ r. ⌜ Counts r (now (out .exit)) ⌝ }
+{
+    let mut end = reach(&*out, at, 0);
+    let mut i = 0;
+    while i < s.len() {
+        end = with_hex(out, end, wide(s[i]), 2);
+        i += 1;
     }
-    if 64 < n {
-        return false;
-    }
-    let bytes = t.bytes;
-    wire::same_at(s, 0, &bytes[..n])
+    end
 }
 
-pub fn print(t: Text) {
-    let n = t.len;
-    if 64 < n {
-        return;
+// Whether two texts are the same.
+pub fn is(a: &[u8], b: &[u8]) -> bool {
+    if a.len() != b.len() {
+        return false;
     }
-    let bytes = t.bytes;
-    io::write_all(STDOUT_FILENO, &bytes[..n]);
+    wire::same_at(a, 0, b)
 }
 
 // Where b stands first from a place on, or the length.
@@ -129,7 +107,7 @@ fn least(a: usize, b: usize) -> usize
 
 // Puts the bytes that s spells at the start of out, as many as fit, and says how many.
 pub fn unhex(s: &[u8], out: &mut [u8]) -> usize
-    ensures { λ r. ⌜ r ≤ length (now (out .exit)) ⌝ }
+    ensures { λ r. ⌜ Counts r (now (out .exit)) ⌝ }
 {
     let n = least(s.len() / 2, out.len());
     let mut i = 0;
