@@ -1,0 +1,96 @@
+-- Laws of the label's rules and bytes. Assumes nothing.
+use mathlib.Core.Path.{_≡_, sym, ap, _∙_}
+use mathlib.Core.Bool.{true, false}
+use mathlib.Core.List.{List, [], _∷_, _++_}
+use Prim.Native.Nat.{ℕ, zero, suc, _+_, _-_, _≤_, _<_}
+use native.Mathlib.Nat.{sub-zero, zero-sub, suc-sub-suc}
+use native.Mathlib.Omega.{arith}
+use native.Mathlib.Numerals.{add-one}
+use lib.ListN.{length, getD, take, drop, replicate, drop-of-length-le, length-replicate}
+use lib.Seq.{drop-cons, take-all}
+use borrow.Author.Tests.{le-leb, lt-leb}
+use Rattle.wire.specs.Wire.{splice}
+use Rattle.wire.proofs.Splices.{splice-join}
+use Rattle.verdict.specs.Rules.{atLeast, sound, broken, firstBroken}
+use Rattle.verdict.proofs.Laws.{flag-holds, flag-breaks, most-holds, most-breaks, least-holds, least-breaks, then-sound, then-broken}
+use Rattle.label.specs.Label.{printable, printRules, labelRules, labelOf, labelBytes, labelOut}
+use Rattle.label.specs.Inner.{Printable}
+
+-- ---- printable bytes
+
+pub below : (b : ℕ) → b < 0x20 → printable b ≡ false
+unfolding printable
+below b h = rw (lt-leb 0x20 b h)
+
+pub above : (b : ℕ) → 0x20 ≤ b → 0x7E < b → printable b ≡ false
+unfolding printable
+above b l h = rw (le-leb 0x20 b l, lt-leb b 0x7E h)
+
+pub among : (b : ℕ) → 0x20 ≤ b → b ≤ 0x7E → printable b ≡ true
+unfolding printable
+among b l h = rw (le-leb 0x20 b l, le-leb b 0x7E h)
+
+-- ---- the bytes from a place on
+
+module _ (name : List ℕ) (i : ℕ) where
+  module _ (h : i < length name) where
+    pub print-next : printable (getD name i 0) ≡ true → firstBroken (printRules (i + 1) (drop (i + 1) name)) ≡ firstBroken (printRules i (drop i name))
+    unfolding printRules
+    print-next e = sym (rw (add-one i, drop-cons name i 0 h) (flag-holds 15 i _ _ e))
+
+    pub print-stop : printable (getD name i 0) ≡ false → firstBroken (printRules i (drop i name)) ≡ broken 15 i
+    unfolding printRules
+    print-stop e = rw (drop-cons name i 0 h) (flag-breaks 15 i _ _ e)
+
+  pub print-end : length name ≤ i → firstBroken (printRules i (drop i name)) ≡ sound
+  unfolding printRules firstBroken
+  print-end h = rw (drop-of-length-le name h)
+
+-- ---- the verdict, by what was found
+
+pub label-long : (name : List ℕ) (room : ℕ) → 16 < length name → labelOf name room ≡ broken 15 16
+unfolding labelOf labelRules
+label-long name room h = most-breaks 15 16 _ (length name) 16 h
+
+module _ (name : List ℕ) (p room : ℕ) (short : length name ≤ 16) (found : Printable name p) where
+  label-rest : labelOf name room ≡ firstBroken (printRules 0 name ++ (atLeast 12 16 room 16 ∷ []))
+  unfolding labelOf labelRules
+  label-rest = most-holds 15 16 _ (length name) 16 short
+
+  pub label-unprintable : p < length name → labelOf name room ≡ broken 15 p
+  label-unprintable h = label-rest ∙ then-broken _ _ 15 p (sym (found .before) ∙ print-stop name p h (found .stops h))
+
+  all-print : length name ≤ p → labelOf name room ≡ firstBroken (atLeast 12 16 room 16 ∷ [])
+  all-print h = label-rest ∙ then-sound _ _ (sym (found .before) ∙ print-end name p h)
+
+  pub label-no-room : length name ≤ p → room < 16 → labelOf name room ≡ broken 12 16
+  label-no-room h r = all-print h ∙ least-breaks 12 16 [] room 16 r
+
+  pub label-fits : length name ≤ p → 16 ≤ room → labelOf name room ≡ sound
+  unfolding firstBroken
+  label-fits h r = all-print h ∙ least-holds 12 16 [] room 16 r
+
+-- ---- the panel
+
+pub panel-kept : (name panel : List ℕ) (n p : ℕ) → labelOf name (length panel) ≡ broken n p → panel ≡ labelOut name panel
+unfolding labelOut
+panel-kept name panel n p e = rw e
+
+drop-replicate : (m n x : ℕ) → drop m (replicate n x) ≡ replicate (n - m) x
+drop-replicate zero n x = rw sub-zero
+drop-replicate (suc m) zero x = rw zero-sub
+drop-replicate (suc m) (suc n) x = rw suc-sub-suc (drop-replicate m n x)
+
+-- the spaces from a place on, as a part of sixteen
+pub spaces-from : (from : ℕ) → take {A = ℕ} (16 - from) (drop from (replicate 16 0x20)) ≡ replicate (16 - from) 0x20
+spaces-from from =
+    let spaces : List ℕ = replicate 16 0x20 in
+    let e : length (drop from spaces) ≤ 16 - from = rw (drop-replicate from 16 0x20, length-replicate) (omega arith) in
+    take-all (16 - from) (drop from spaces) e ∙ drop-replicate from 16 0x20
+
+pub panel-written : (name panel : List ℕ) → labelOf name (length panel) ≡ sound
+    → splice (splice panel 0 name) (length name) (replicate (16 - length name) 0x20) ≡ labelOut name panel
+unfolding labelOut labelBytes
+panel-written name panel e =
+    let z : length name ≡ 0 + length name = omega arith in
+    rw e (ap (λ (k : ℕ). splice (splice panel 0 name) k (replicate (16 - length name) 0x20)) z ∙ splice-join panel name (replicate (16 - length name) 0x20) 0)

@@ -1,0 +1,67 @@
+// The panel label of a name. A refusal leaves the panel as it was.
+ghost use mathlib.Core.Path.{_≡_};
+ghost use Prim.Native.Nat.{_-_, _≤_};
+ghost use lib.ListN.{length, replicate};
+ghost use Rattle.wire.specs.Wire.{splice};
+ghost use Rattle.label.specs.Label.{labelOf, labelOut};
+ghost use Rattle.label.specs.Answer.{labelledOf};
+ghost use Rattle.label.specs.Inner.{Printable};
+use verdict::Refusal;
+
+pub enum Labelled {
+    Written,
+    Refused(Refusal),
+}
+
+fn refuse(number: u8, place: u64) -> Labelled
+    ensures { λ r. ⌜ r ≡ Labelled.Refused (record { number = number; place = place }) ⌝ }
+{
+    Labelled::Refused(Refusal { number, place })
+}
+
+// The place of the first byte that isn't printable, or the length.
+fn first_unprintable(name: &[u8]) -> usize
+    ensures { λ r. ⌜ Printable (now (name .entry)) r ⌝ }
+{
+    let mut i = 0;
+    while i < name.len() {
+        let b = name[i];
+        if b < 0x20 {
+            return i;
+        }
+        if 0x7E < b {
+            return i;
+        }
+        i += 1;
+    }
+    i
+}
+
+// Spaces from a place of the label to its end.
+fn pad(panel: &mut [u8], from: usize)
+    requires { ⌜ from ≤ 16 ⌝ }
+    ensures { λ _. ⌜ now (panel .exit) ≡ splice (now (panel .entry)) from (replicate (16 - from) 0x20) ⌝ }
+{
+    let spaces = [b' '; 16];
+    wire::copy_at(panel, from, &spaces[from..]);
+}
+
+// Puts the label of a name into the first sixteen bytes of a panel; a longer panel keeps the rest.
+pub fn label(name: &[u8], panel: &mut [u8]) -> Labelled
+    ensures { λ r. ⌜ (labelledOf r ≡ labelOf (now (name .entry)) (length (now (panel .entry)))) × (now (panel .exit) ≡ labelOut (now (name .entry)) (now (panel .entry))) ⌝ }
+{
+    let n = name.len();
+    if 16 < n {
+        return refuse(15, 16);
+    }
+    let p = first_unprintable(name);
+    if p < n {
+        return refuse(15, p as u64);
+    }
+    if panel.len() < 16 {
+        return refuse(12, 16);
+    }
+    wire::copy_at(panel, 0, name);
+    pad(panel, n);
+    Labelled::Written
+}

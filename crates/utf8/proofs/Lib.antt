@@ -1,0 +1,4 @@
+-- The laws.
+pub mod Shapes
+pub mod Laws
+pub mod Steps
