@@ -246,3 +246,18 @@ pub fn same_at(s: &[u8], at: usize, xs: &[u8]) -> bool
     }
     true
 }
+
+// The n bytes at an offset, or as many of them as are there: a part of the slice, not a copy.
+pub fn part_at(s: &[u8], at: usize, n: usize) -> &[u8]
+    ensures { λ r. ⌜ now r ≡ part (now (s .entry)) at n ⌝ }
+{
+    let m = s.len();
+    if m <= at {
+        return &s[m..];
+    }
+    if m - at < n {
+        return &s[at..];
+    }
+    let end = at + n;
+    &s[at..end]
+}
