@@ -1,4 +1,7 @@
 // What every call of the library answers with where it refuses.
+ghost use mathlib.Core.Path.{_≡_};
+ghost use Rattle.verdict.specs.Rules.{broken};
+ghost use Rattle.verdict.specs.Answer.{verdictOf};
 
 // The paper's number, and the offset or the quantity that is at fault.
 pub struct Refusal {
@@ -10,4 +13,11 @@ pub struct Refusal {
 pub enum Checked {
     Sound,
     Broken(Refusal),
+}
+
+// A rule that doesn't hold, by its number and its place.
+pub fn broken(number: u8, place: u64) -> Checked
+    ensures { λ r. ⌜ verdictOf r ≡ broken number place ⌝ }
+{
+    Checked::Broken(Refusal { number, place })
 }
