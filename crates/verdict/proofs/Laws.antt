@@ -7,6 +7,11 @@ use borrow.Author.Tests.{le-leb, lt-leb, eq-eqb, ne-eqb}
 use native.Mathlib.Omega.{arith}
 use Rattle.verdict.specs.Rules.{Rule, flag, equal, atLeast, atMost, holds, numberOf, placeOf, Verdict, sound, broken, firstBroken}
 
+-- no rule is broken where there is none
+pub first-none : firstBroken [] ≡ sound
+unfolding firstBroken
+first-none = refl
+
 -- a rule that holds is passed over, and one that doesn't decides
 module _ (r : Rule) (rs : List Rule) where
   pub first-holds : holds r ≡ true → firstBroken (r ∷ rs) ≡ firstBroken rs
