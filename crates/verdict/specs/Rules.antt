@@ -48,3 +48,8 @@ pub data Outcome (A : Type 0) : Type 0 where
 abbrev pub settle : {A : Type 0} → Verdict → A → Outcome A
 settle sound a = given a
 settle (broken n p) a = refused n p
+
+-- what a call goes on with where an earlier one gives something
+abbrev pub onGiven : {A B : Type 0} → Outcome A → (A → Outcome B) → Outcome B
+onGiven (given a) f = f a
+onGiven (refused n p) f = refused n p
