@@ -5,7 +5,15 @@
 //   crc32   the checksum, eight hexadecimal digits
 //   utf8    valid or invalid
 //   varint  cut, malformed, or the value, the position behind it and the value's shortest form in hexadecimal
+//   label   of a name: written or the refusal, and then a panel of twenty bytes AA afterwards
+//   panel   the same, with a panel of fifteen bytes
+//   names   of a plain dictionary: how many names it has, or the refusal
+//   many    of a number of names (u32) and a kind (u8), from which a dictionary is made: the same; kind 1 makes the last name equal to the first
+//   name    of a number (u64) and a plain dictionary: the name's place, length and bytes, or the refusal
+//   number  of a length (u8), a name and a plain dictionary: the name's number, missing, or the refusal
+//   query   of two times (u64 each) and a table of rows: the numbers of the blocks chosen, or the refusal
 // It prints how many cases of each group agree, and before that each case that doesn't, with the answer that the library gave.
+mod answers;
 mod groups;
 mod text;
 
@@ -29,7 +37,7 @@ fn judge(line: &[u8], name: &[u8], input: &[u8], wanted: &[u8], tally: Tally) ->
     let n = text::unhex(input, &mut bytes);
     let mut out = io::buffer();
     let k = groups::answer(group, &bytes[..n], &mut out);
-    let agrees = text::is(&out[..k], wanted);
+    let agrees = wire::equal(&out[..k], wanted);
     if !agrees {
         complain(line, &out[..k]);
     }

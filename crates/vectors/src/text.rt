@@ -3,6 +3,7 @@ ghost use mathlib.Core.Path.{_≡_};
 ghost use Prim.Native.Nat.{_+_, _≤_, _<_, min};
 ghost use lib.ListN.{length};
 ghost use Rattle.io.specs.Counts.{Counts};
+use verdict::Refusal;
 
 // How far a text of n bytes from a place on reaches in a buffer.
 pub fn reach(out: &[u8], at: usize, n: usize) -> usize
@@ -58,12 +59,14 @@ pub fn with_bytes(out: &mut [u8], at: usize, s: &[u8]) -> usize
     end
 }
 
-// Whether two texts are the same.
-pub fn is(a: &[u8], b: &[u8]) -> bool {
-    if a.len() != b.len() {
-        return false;
-    }
-    wire::same_at(a, 0, b)
+// A refusal: its number and its place.
+pub fn with_refusal(out: &mut [u8], r: Refusal) -> usize
+    ensures { λ r. ⌜ Counts r (now (out .exit)) ⌝ }
+{
+    let a = with(out, 0, b"refused ");
+    let b = with_decimal(out, a, r.number as u64);
+    let c = with(out, b, b" ");
+    with_decimal(out, c, r.place)
 }
 
 // Where b stands first from a place on, or the length.

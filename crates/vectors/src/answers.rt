@@ -1,0 +1,211 @@
+// What the library answers to an input, as text in a buffer: each function says how long the text is.
+use crate::text;
+use label::Labelled;
+use lookup::Located;
+use lookup::Sought;
+use names::Counted;
+use parts::Epoch;
+use query::Queried;
+use varint::Decoded;
+ghost use Prim.Native.Nat.{_+_, _*_, _<_, _≤_};
+ghost use Rattle.io.specs.Counts.{Counts};
+
+pub fn crc32(s: &[u8], out: &mut [u8]) -> usize
+    ensures { λ r. ⌜ Counts r (now (out .exit)) ⌝ }
+{
+    text::with_hex(out, 0, crc32::checksum(s) as u64, 8)
+}
+
+pub fn utf8(s: &[u8], out: &mut [u8]) -> usize
+    ensures { λ r. ⌜ Counts r (now (out .exit)) ⌝ }
+{
+    if utf8::valid(s) {
+        return text::with(out, 0, b"valid");
+    }
+    text::with(out, 0, b"invalid")
+}
+
+fn shortest(value: u64, form: &mut [u8]) -> usize
+    ensures { λ r. ⌜ Counts r (now (form .exit)) ⌝ }
+{
+    varint::encode_at(form, 0, value);
+    text::reach(&*form, 0, varint::encoded_len(value))
+}
+
+// A varint's value, the position behind it, and the value's shortest form.
+fn spelled(value: u64, next: usize, out: &mut [u8]) -> usize
+    ensures { λ r. ⌜ Counts r (now (out .exit)) ⌝ }
+{
+    let a = text::with_decimal(out, 0, value);
+    let b = text::with(out, a, b" ");
+    let c = text::with_decimal(out, b, next as u64);
+    let d = text::with(out, c, b" ");
+    let mut form = [0u8; 10];
+    let n = shortest(value, &mut form);
+    text::with_bytes(out, d, &form[..n])
+}
+
+pub fn varint(s: &[u8], out: &mut [u8]) -> usize
+    ensures { λ r. ⌜ Counts r (now (out .exit)) ⌝ }
+{
+    let d = varint::decode_at(s, 0);
+    match d {
+        Decoded::Value(value, next) => spelled(value, next, out),
+        Decoded::Cut => text::with(out, 0, b"cut"),
+        Decoded::Malformed => text::with(out, 0, b"malformed"),
+    }
+}
+
+fn labelled(l: Labelled, out: &mut [u8]) -> usize
+    ensures { λ r. ⌜ Counts r (now (out .exit)) ⌝ }
+{
+    match l {
+        Labelled::Written => text::with(out, 0, b"written"),
+        Labelled::Refused(r) => text::with_refusal(out, r),
+    }
+}
+
+pub fn label(s: &[u8], out: &mut [u8]) -> usize
+    ensures { λ r. ⌜ Counts r (now (out .exit)) ⌝ }
+{
+    let mut panel = [0xAAu8; 20];
+    let l = label::label(s, &mut panel);
+    let a = labelled(l, out);
+    let b = text::with(out, a, b" ");
+    text::with_bytes(out, b, &panel)
+}
+
+pub fn panel(s: &[u8], out: &mut [u8]) -> usize
+    ensures { λ r. ⌜ Counts r (now (out .exit)) ⌝ }
+{
+    let mut panel = [0xAAu8; 15];
+    let l = label::label(s, &mut panel);
+    let a = labelled(l, out);
+    let b = text::with(out, a, b" ");
+    text::with_bytes(out, b, &panel)
+}
+
+pub fn names(s: &[u8], out: &mut [u8]) -> usize
+    ensures { λ r. ⌜ Counts r (now (out .exit)) ⌝ }
+{
+    let c = names::check(s);
+    match c {
+        Counted::Names(n) => text::with_decimal(out, 0, n as u64),
+        Counted::Refused(r) => text::with_refusal(out, r),
+    }
+}
+
+// Name i of a dictionary that is made: its id, its length and three letters.
+fn put_name(dictionary: &mut [u8], at: usize, i: u32, letters: u32)
+    requires { ⌜ at ≤ 4 + 7 * 4294967296 ⌝ }
+{
+    wire::put_u16(dictionary, at, (i % 0x1_0000) as u16);
+    wire::put_u16(dictionary, at + 2, 3);
+    wire::put_u8(dictionary, at + 4, (48 + letters % 41) as u8);
+    wire::put_u8(dictionary, at + 5, (48 + letters / 41 % 41) as u8);
+    wire::put_u8(dictionary, at + 6, (48 + letters / 1681 % 41) as u8);
+}
+
+// The letters of name i are those of i, which differ below 68,921; kind 1 gives the last name those of the first.
+fn letters(i: u32, n: u32, kind: u8) -> u32
+    requires { ⌜ i < n ⌝ }
+{
+    if kind == 1 {
+        if i + 1 == n {
+            return 0;
+        }
+    }
+    i
+}
+
+fn fill(dictionary: &mut [u8], n: u32, kind: u8) {
+    let mut i: u32 = 0;
+    let mut at: usize = 4;
+    while i < n {
+        put_name(dictionary, at, i, letters(i, n, kind));
+        at += 7;
+        i += 1;
+    }
+}
+
+fn made_len(n: u32) -> usize {
+    4 + n as usize * 7
+}
+
+pub fn many(s: &[u8], out: &mut [u8]) -> usize
+    ensures { λ r. ⌜ Counts r (now (out .exit)) ⌝ }
+{
+    let mut dictionary = [0u8; 458749];
+    let n = wire::u32_at(s, 0);
+    wire::put_u32(&mut dictionary, 0, n);
+    fill(&mut dictionary, n, wire::u8_at(s, 4));
+    names(wire::part_at(&dictionary, 0, made_len(n)), out)
+}
+
+// A name's place, its length and its bytes.
+fn located(place: usize, name: &[u8], out: &mut [u8]) -> usize
+    ensures { λ r. ⌜ Counts r (now (out .exit)) ⌝ }
+{
+    let a = text::with_decimal(out, 0, place as u64);
+    let b = text::with(out, a, b" ");
+    let c = text::with_decimal(out, b, name.len() as u64);
+    let d = text::with(out, c, b" ");
+    text::with_bytes(out, d, name)
+}
+
+pub fn name(s: &[u8], out: &mut [u8]) -> usize
+    ensures { λ r. ⌜ Counts r (now (out .exit)) ⌝ }
+{
+    let id = wire::u64_at(s, 0);
+    let dictionary = wire::part_at(s, 8, s.len());
+    let l = lookup::locate(dictionary, id);
+    match l {
+        Located::At(p) => located(p.place, lookup::name(dictionary, id), out),
+        Located::Refused(r) => text::with_refusal(out, r),
+    }
+}
+
+pub fn number(s: &[u8], out: &mut [u8]) -> usize
+    ensures { λ r. ⌜ Counts r (now (out .exit)) ⌝ }
+{
+    let n = wire::u8_at(s, 0) as usize;
+    let dictionary = wire::part_at(s, 1 + n, s.len());
+    let f = lookup::number_of(dictionary, wire::part_at(s, 1, n));
+    match f {
+        Sought::Number(i) => text::with_decimal(out, 0, i as u64),
+        Sought::Missing => text::with(out, 0, b"missing"),
+        Sought::Refused(r) => text::with_refusal(out, r),
+    }
+}
+
+// How many numbers were chosen, and a list of four afterwards.
+fn chosen(n: u32, numbers: &[u32], out: &mut [u8]) -> usize
+    ensures { λ r. ⌜ Counts r (now (out .exit)) ⌝ }
+{
+    let mut end = text::with_decimal(out, 0, n as u64);
+    let mut i = 0;
+    while i < numbers.len() {
+        end = text::with(out, end, b" ");
+        end = text::with_decimal(out, end, wide(numbers[i]));
+        i += 1;
+    }
+    end
+}
+
+fn wide(x: u32) -> u64 {
+    x as u64
+}
+
+pub fn query(s: &[u8], out: &mut [u8]) -> usize
+    ensures { λ r. ⌜ Counts r (now (out .exit)) ⌝ }
+{
+    let from = Epoch(wire::u64_at(s, 0));
+    let to = Epoch(wire::u64_at(s, 8));
+    let table = wire::part_at(s, 16, s.len());
+    let mut numbers = [4_294_967_295u32; 4];
+    let q = query::query(table, table.len() / 28, from, to, &mut numbers);
+    match q {
+        Queried::Listed(n) => chosen(n, &numbers, out),
+        Queried::Refused(r) => text::with_refusal(out, r),
+    }
+}
