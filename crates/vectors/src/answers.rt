@@ -1,12 +1,17 @@
 // What the library answers to an input, as text in a buffer: each function says how long the text is.
 use crate::text;
+use entries::Entries;
 use label::Labelled;
 use lookup::Located;
 use lookup::Sought;
 use names::Counted;
 use parts::Epoch;
 use query::Queried;
+use recovery::Recovered;
+use recovery::Report;
 use varint::Decoded;
+use verdict::Checked;
+use verdict::Refusal;
 ghost use Prim.Native.Nat.{_+_, _*_, _<_, _≤_};
 ghost use Rattle.io.specs.Counts.{Counts};
 
@@ -207,5 +212,80 @@ pub fn query(s: &[u8], out: &mut [u8]) -> usize
     match q {
         Queried::Listed(n) => chosen(n, &numbers, out),
         Queried::Refused(r) => text::with_refusal(out, r),
+    }
+}
+
+pub fn entries(s: &[u8], out: &mut [u8]) -> usize
+    ensures { λ r. ⌜ Counts r (now (out .exit)) ⌝ }
+{
+    let start = Epoch(wire::u64_at(s, 0));
+    let e = entries::check(wire::part_at(s, 12, s.len()), start, wire::u32_at(s, 8));
+    match e {
+        Entries::Read(n, t) => counted(n, t, out),
+        Entries::Refused(r) => text::with_refusal(out, r),
+    }
+}
+
+// A number of entries, and the last one's time.
+fn counted(n: u64, last: Epoch, out: &mut [u8]) -> usize
+    ensures { λ r. ⌜ Counts r (now (out .exit)) ⌝ }
+{
+    let a = text::with_decimal(out, 0, n);
+    let b = text::with(out, a, b" ");
+    text::with_decimal(out, b, last.0)
+}
+
+// What stopped a scan: 0 at place 0 for a clean end.
+fn stop_of(v: Checked) -> Refusal {
+    match v {
+        Checked::Sound => Refusal {
+            number: 0,
+            place: 0,
+        },
+        Checked::Broken(r) => r,
+    }
+}
+
+fn wholeness(whole: bool, out: &mut [u8], at: usize) -> usize
+    ensures { λ r. ⌜ Counts r (now (out .exit)) ⌝ }
+{
+    if whole {
+        return text::with(out, at, b" whole ");
+    }
+    text::with(out, at, b" none ")
+}
+
+// How many blocks there are, and the end of the last.
+fn found(r: Report, out: &mut [u8]) -> usize
+    ensures { λ r. ⌜ Counts r (now (out .exit)) ⌝ }
+{
+    let a = text::with_decimal(out, 0, r.blocks as u64);
+    let b = text::with(out, a, b" ");
+    let c = text::with_decimal(out, b, r.end);
+    text::with(out, c, b" ")
+}
+
+// Then what stopped the scan, whether the dictionary is whole, and the lent table.
+fn reported(r: Report, table: &[u8], out: &mut [u8]) -> usize
+    ensures { λ r. ⌜ Counts r (now (out .exit)) ⌝ }
+{
+    let stop = r.stop;
+    let w = stop_of(stop);
+    let a = found(r, out);
+    let b = text::with_decimal(out, a, w.number as u64);
+    let c = text::with(out, b, b" ");
+    let d = text::with_decimal(out, c, w.place);
+    let e = wholeness(r.whole, out, d);
+    text::with_bytes(out, e, table)
+}
+
+pub fn recover(s: &[u8], out: &mut [u8]) -> usize
+    ensures { λ r. ⌜ Counts r (now (out .exit)) ⌝ }
+{
+    let mut table = [0xAAu8; 60];
+    let r = recovery::recover(s, &mut table);
+    match r {
+        Recovered::Found(r) => reported(r, &table, out),
+        Recovered::Refused(r) => text::with_refusal(out, r),
     }
 }

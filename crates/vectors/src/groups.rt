@@ -16,10 +16,12 @@ pub enum Group {
     Name,
     Number,
     Query,
+    Entries,
+    Recover,
     Unknown,
 }
 
-fn leaf_named(name: &[u8]) -> Group {
+fn other_named(name: &[u8]) -> Group {
     if wire::equal(name, b"crc32") {
         return Group::Crc32;
     }
@@ -28,6 +30,12 @@ fn leaf_named(name: &[u8]) -> Group {
     }
     if wire::equal(name, b"varint") {
         return Group::Varint;
+    }
+    if wire::equal(name, b"entries") {
+        return Group::Entries;
+    }
+    if wire::equal(name, b"recover") {
+        return Group::Recover;
     }
     Group::Unknown
 }
@@ -54,7 +62,7 @@ pub fn named(name: &[u8]) -> Group {
     if wire::equal(name, b"query") {
         return Group::Query;
     }
-    leaf_named(name)
+    other_named(name)
 }
 
 // Puts the library's answer to an input into a buffer, and says how long it is.
@@ -72,13 +80,15 @@ pub fn answer(group: Group, s: &[u8], out: &mut [u8]) -> usize
         Group::Name => answers::name(s, out),
         Group::Number => answers::number(s, out),
         Group::Query => answers::query(s, out),
+        Group::Entries => answers::entries(s, out),
+        Group::Recover => answers::recover(s, out),
         Group::Unknown => text::with(out, 0, b"no such group"),
     }
 }
 
 // A group's place in a tally.
 fn place(group: Group) -> usize
-    ensures { λ r. ⌜ r < 11 ⌝ }
+    ensures { λ r. ⌜ r < 13 ⌝ }
 {
     match group {
         Group::Crc32 => 0,
@@ -91,20 +101,22 @@ fn place(group: Group) -> usize
         Group::Name => 7,
         Group::Number => 8,
         Group::Query => 9,
-        Group::Unknown => 10,
+        Group::Entries => 10,
+        Group::Recover => 11,
+        Group::Unknown => 12,
     }
 }
 
 // How many cases each group has, and how many of them agree.
 pub struct Tally {
-    pub agree: [u64; 11],
-    pub cases: [u64; 11],
+    pub agree: [u64; 13],
+    pub cases: [u64; 13],
 }
 
 pub fn none() -> Tally {
     Tally {
-        agree: [0; 11],
-        cases: [0; 11],
+        agree: [0; 13],
+        cases: [0; 13],
     }
 }
 
@@ -141,5 +153,7 @@ pub fn report(t: Tally) {
     print_count(b"name", t, Group::Name);
     print_count(b"number", t, Group::Number);
     print_count(b"query", t, Group::Query);
+    print_count(b"entries", t, Group::Entries);
+    print_count(b"recover", t, Group::Recover);
     print_count(b"no such group", t, Group::Unknown);
 }

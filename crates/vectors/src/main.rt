@@ -11,6 +11,9 @@
 //   many    of a number of names (u32) and a kind (u8), from which a dictionary is made: the same; kind 1 makes the last name equal to the first
 //   name    of a number (u64) and a plain dictionary: the name's place, length and bytes, or the refusal
 //   number  of a length (u8), a name and a plain dictionary: the name's number, missing, or the refusal
+//   entries of a block's start (u64), a number of names (u32) and a payload: how many entries it has and the last one's time, or the refusal
+//   recover of a file: how many blocks, the end of the last, the number and place that stopped the scan, whether the dictionary is whole, and a
+//           lent table of 60 bytes AA afterwards; or the refusal
 //   query   of two times (u64 each) and a table of rows: the numbers of the blocks chosen, or the refusal
 // It prints how many cases of each group agree, and before that each case that doesn't, with the answer that the library gave.
 mod answers;
