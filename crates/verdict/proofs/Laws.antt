@@ -5,7 +5,7 @@ use mathlib.Core.List.{List, [], _∷_, _++_}
 use Prim.Native.Nat.{ℕ, _≤_, _<_}
 use borrow.Author.Tests.{le-leb, lt-leb, eq-eqb, ne-eqb}
 use native.Mathlib.Omega.{arith}
-use Rattle.verdict.specs.Rules.{Rule, flag, equal, atLeast, atMost, holds, numberOf, placeOf, Verdict, sound, broken, firstBroken}
+use Rattle.verdict.specs.Rules.{Rule, flag, equal, atLeast, atMost, holds, numberOf, placeOf, Verdict, sound, broken, firstBroken, Held, given, refused, settle}
 
 -- no rule is broken where there is none
 pub first-none : firstBroken [] ≡ sound
@@ -77,11 +77,6 @@ then-sound rs qs e = rw (first-append rs qs, e)
 pub then-broken : (rs qs : List Rule) (n p : ℕ) → firstBroken rs ≡ broken n p → firstBroken (rs ++ qs) ≡ broken n p
 then-broken rs qs n p e = rw (first-append rs qs, e)
 
--- all rules hold
-abbrev pub Held : List Rule → Type 0
-Held [] = Unit {0}
-Held (r ∷ rs) = (holds r ≡ true) × Held rs
-
 -- where none is broken all hold, and the other way round
 pub sound-held : (rs : List Rule) → firstBroken rs ≡ sound → Held rs
 unfolding firstBroken
@@ -100,3 +95,12 @@ held-sound (r ∷ rs) h = rw (h .0) (held-sound rs (h .1))
 pub held-parts : (rs qs : List Rule) → Held (rs ++ qs) → Held rs × Held qs
 held-parts [] qs h = (tt, h)
 held-parts (r ∷ rs) qs h = let q = held-parts rs qs (h .1) in ((h .0, q .0), q .1)
+
+-- what an outcome says of the verdict
+pub settle-given : {A : Type 0} (v : Verdict) (a b : A) → given b ≡ settle v a → (v ≡ sound) × (b ≡ a)
+settle-given sound a b e = (cc, cc)
+settle-given (broken n p) a b e = absurd (let z : _≡_ {A = ℕ} 0 1 = cc in omega arith)
+
+pub settle-refused : {A : Type 0} (v : Verdict) (a : A) (n p : ℕ) → refused n p ≡ settle v a → v ≡ broken n p
+settle-refused sound a n p e = absurd (let z : _≡_ {A = ℕ} 0 1 = cc in omega arith)
+settle-refused (broken m q) a n p e = cc

@@ -1,6 +1,7 @@
 -- Rules as data: document 01 gives checks as ordered sentences, each with a number and a place. Assumes nothing.
 use Prim.Native.Nat.{ℕ}
-use mathlib.Core.Bool.{Bool, cond}
+use mathlib.Core.Path.{_≡_}
+use mathlib.Core.Bool.{Bool, true, false, cond}
 use mathlib.Core.List.{List, [], _∷_}
 use lib.Dec.{leb, eqb}
 
@@ -38,6 +39,20 @@ pub data Verdict : Type 0 where
 unfoldable pub firstBroken : List Rule → Verdict
 firstBroken [] = sound
 firstBroken (r ∷ rs) = cond (holds r) (firstBroken rs) (broken (numberOf r) (placeOf r))
+
+-- all rules hold
+abbrev pub Held : List Rule → Type 0
+Held [] = Unit {0}
+Held (r ∷ rs) = (holds r ≡ true) × Held rs
+
+abbrev pub isSound : Verdict → Bool
+isSound sound = true
+isSound (broken n p) = false
+
+-- what is there where no rule is broken, and where one is
+abbrev pub ifSound : {A : Type 0} → Verdict → A → A → A
+ifSound sound a b = a
+ifSound (broken n p) a b = b
 
 -- what a call hands back: what it gives, or the number and the place of its refusal
 pub data Outcome (A : Type 0) : Type 0 where
