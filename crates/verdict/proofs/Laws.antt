@@ -5,7 +5,7 @@ use mathlib.Core.List.{List, [], _∷_, _++_}
 use Prim.Native.Nat.{ℕ, _≤_, _<_}
 use borrow.Author.Tests.{le-leb, lt-leb, eq-eqb, ne-eqb}
 use native.Mathlib.Omega.{arith}
-use Rattle.verdict.specs.Rules.{Rule, flag, equal, atLeast, atMost, holds, numberOf, placeOf, Verdict, sound, broken, firstBroken, Held, given, refused, settle}
+use Rattle.verdict.specs.Rules.{Rule, flag, equal, atLeast, atMost, holds, numberOf, placeOf, Verdict, sound, broken, firstBroken, Held, given, refused, settle, ruled}
 
 -- no rule is broken where there is none
 pub first-none : firstBroken [] ≡ sound
@@ -104,3 +104,9 @@ settle-given (broken n p) a b e = absurd (let z : _≡_ {A = ℕ} 0 1 = cc in om
 pub settle-refused : {A : Type 0} (v : Verdict) (a : A) (n p : ℕ) → refused n p ≡ settle v a → v ≡ broken n p
 settle-refused sound a n p e = absurd (let z : _≡_ {A = ℕ} 0 1 = cc in omega arith)
 settle-refused (broken m q) a n p e = cc
+
+-- the rules that stand for a verdict say it again
+pub first-ruled : (v : Verdict) → firstBroken (ruled v) ≡ v
+unfolding ruled
+first-ruled sound = first-none
+first-ruled (broken n p) = flag-breaks n p [] false refl

@@ -68,3 +68,17 @@ settle (broken n p) a = refused n p
 abbrev pub onGiven : {A B : Type 0} → Outcome A → (A → Outcome B) → Outcome B
 onGiven (given a) f = f a
 onGiven (refused n p) f = refused n p
+
+-- what an outcome says of the rules, and what it gives, or something else where it refuses
+abbrev pub verdictIn : {A : Type 0} → Outcome A → Verdict
+verdictIn (given a) = sound
+verdictIn (refused n p) = broken n p
+
+abbrev pub givenOr : {A : Type 0} → A → Outcome A → A
+givenOr d (given a) = a
+givenOr d (refused n p) = d
+
+-- a verdict found elsewhere, as rules
+unfoldable pub ruled : Verdict → List Rule
+ruled sound = []
+ruled (broken n p) = flag n p false ∷ []
