@@ -96,6 +96,10 @@ pub held-parts : (rs qs : List Rule) → Held (rs ++ qs) → Held rs × Held qs
 held-parts [] qs h = (tt, h)
 held-parts (r ∷ rs) qs h = let q = held-parts rs qs (h .1) in ((h .0, q .0), q .1)
 
+-- what is broken isn't sound
+pub never-both : (v : Verdict) (n p : ℕ) → v ≡ broken n p → v ≡ sound → ⊥
+never-both v n p b s = let z : _≡_ {A = ℕ} 0 1 = cc in omega arith
+
 -- what an outcome says of the verdict
 pub settle-given : {A : Type 0} (v : Verdict) (a b : A) → given b ≡ settle v a → (v ≡ sound) × (b ≡ a)
 settle-given sound a b e = (cc, cc)
