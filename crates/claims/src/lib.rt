@@ -1,0 +1,1 @@
+// What recovery and repair find on a disk that was cut: definitions and theorems only.
