@@ -101,7 +101,7 @@ module _ (k at : ℕ) (f : List ℕ) (rows : List IndexRow) (d : List ℕ) where
 
 -- ---- what is in full
 
-cond-same : {A : Type 0} (t : Bool) (a : A) → cond t a a ≡ a
+pub cond-same : {A : Type 0} (t : Bool) (a : A) → cond t a a ≡ a
 cond-same true a = refl
 cond-same false a = refl
 
@@ -120,7 +120,7 @@ full-dictionaries p cut n (b ∷ bs) ss =
     rw (length-append, ← add-assoc, cond-same) (full-dictionaries (p + length (blockBytes n b)) cut (suc n) bs ss)
 
 -- of a closing: no block, and the dictionary by its last byte
-closing-blocks : (p cut at : ℕ) (rows : List IndexRow) (d : List ℕ) → inFull blockOf p cut (closingStores at rows d) ≡ []
+pub closing-blocks : (p cut at : ℕ) (rows : List IndexRow) (d : List ℕ) → inFull blockOf p cut (closingStores at rows d) ≡ []
 unfolding inFull closingStores storeBytes blockOf
 closing-blocks p cut at rows d = simp cond-same
 

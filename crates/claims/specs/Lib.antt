@@ -1,4 +1,6 @@
--- The definitions of the claims: blocks that are taken, stores, and the disk that a cut leaves. Assumes nothing.
+-- The definitions of the claims: the worked cases, blocks that are taken, stores, the disk that a cut leaves, the calls, and demand 3. Assumes nothing.
+pub mod Worked
 pub mod Blocks
 pub mod Disk
-pub mod Worked
+pub mod Calls
+pub mod Demand3
