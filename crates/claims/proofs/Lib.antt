@@ -1,4 +1,4 @@
--- The claims: the worked cases, what recovery and repair find on a disk that was cut, and demand 3.
+-- The claims: the worked cases, what recovery and repair find on a disk that was cut, that a finished file opens, and demand 3.
 pub mod Worked
 pub mod Lengths
 pub mod Full
@@ -6,6 +6,8 @@ pub mod Scans
 pub mod Disk
 pub mod Dictionary
 pub mod Recovers
+pub mod Opens
+pub mod Readings
 pub mod Repairs
 pub mod Calls
 pub mod Taken
