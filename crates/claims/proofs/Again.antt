@@ -162,24 +162,30 @@ module _ (xs : List Adding) (t : Taken begunWriter xs) (d p table stored out : L
         length-rows (w .blocks) t,
       )
 
-  close-sound : (t : List ℕ) → 1 ≤ length stored → length stored < 256 ^ 4
+  close-sound : (t : List ℕ) → length xs * stride ≤ length t → 1 ≤ length stored → length stored < 256 ^ 4
       → firstBroken (closeRules (after begunWriter xs) t (plainOf (after begunWriter xs .given)) stored (length out)) ≡ sound
   unfolding closeRules endRules lastRules isOpen
-  close-sound u some fits =
+  close-sound u rows some fits =
       let w = after begunWriter xs in
       let k = w .given in
       let few = after-given xs t in
       then-sound (begunRules w) _ (after-begun xs t)
-      ∙ then-sound (endRules w stored) _
-      (flag-holds _ _ _ _ (ap (λ (p : Pending). not (ltb 0 (p .plain))) (after-pending begunWriter xs refl)) ∙ most-holds _ _ _ _ _ (omega arith)
-      ∙ least-holds _ _ _ _ _ some ∙ first-none)
+      ∙ then-sound (endRules w (length u) stored) _
+      (flag-holds _ _ _ _ (ap (λ (p : Pending). not (ltb 0 (p .plain))) (after-pending begunWriter xs refl))
+      ∙ least-holds _ _ _ _ _ (omega (arith, after-blocks begunWriter xs, rows)) ∙ most-holds _ _ _ _ _ (omega arith) ∙ least-holds _ _ _ _ _ some ∙ first-none)
       ∙ then-sound (dictionaryRules (plainOf k)) _ (plain-sound k few)
       ∙ least-holds _ _ _ _ _ (omega (arith, plain-count k few))
       ∙ least-holds _ _ _ _ _ (length-last w u (after-blocks begunWriter xs ∙ omega arith)) ∙ first-none
+
+  -- the table is as long as it was
+  table-kept : length xs * stride ≤ length (last (newWriting d p table) (again xs out) .table)
+  table-kept =
+      let b = behind-all .between .rows in
+      omega (arith, room .rows, ap length b, length-splice table 0 (tableBytes (rowsFrom 64 (map blockFor xs))))
 
   pub again-closes : 1 ≤ length stored → length stored < 256 ^ 4 → Closes (newWriting d p table) xs (plainOf (after begunWriter xs .given)) stored out
   unfolding closeOf
   again-closes some fits =
       let k = last (newWriting d p table) (again xs out) in
       settle-sound (firstBroken (closeRules (k .writer) (k .table) (plainOf (after begunWriter xs .given)) stored (length out))) _
-      ∙ rw again-writer (close-sound (k .table) some fits)
+      ∙ rw again-writer (close-sound (k .table) table-kept some fits)
