@@ -1,6 +1,7 @@
--- The definitions of the claims: the worked cases, blocks that are taken, stores, the disk that a cut leaves, the calls, and demand 3. Assumes nothing.
+-- The definitions of the claims: the worked cases, blocks that are taken, stores, the disk that a cut leaves, the calls, and demands 2 and 3. Assumes nothing.
 pub mod Worked
 pub mod Blocks
 pub mod Disk
 pub mod Calls
+pub mod Demand2
 pub mod Demand3
