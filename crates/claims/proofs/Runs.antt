@@ -1,8 +1,9 @@
 -- What every list of calls stores: nothing, or the stores of a writer that began, with the blocks of the accepted addings. Assumes nothing.
-use mathlib.Core.Path.{_≡_, refl, sym, ap, _∙_}
+use mathlib.Core.Path.{_≡_, refl, sym, ap, subst, _∙_}
 use mathlib.Core.Bool.{false}
 use mathlib.Core.List.{List, [], _∷_, _++_, map, map-append, append-assoc, append-nil}
 use Prim.Native.Nat.{ℕ, suc, _+_, _*_, _^_, _≤_, _<_}
+use native.Mathlib.Nat.{add-zero}
 use native.Mathlib.Omega.{arith}
 use lib.ListN.{length, length-append, length-map}
 use Rattle.verdict.specs.Rules.{Verdict, sound, broken, firstBroken}
@@ -25,7 +26,7 @@ use Rattle.writer.proofs.Beginning.{begin-turn}
 use Rattle.claims.specs.Blocks.{Valid}
 use Rattle.claims.specs.Disk.{Store, headerStore, blockStore, blockStores, closingStores, openStores, closedStores, Begun}
 use Rattle.claims.specs.Disk as stored
-use Rattle.claims.specs.Calls.{Call, begin, name, entry, block, close, AllTyped, Writing, next, stores, accepted, run, addings}
+use Rattle.claims.specs.Calls.{Call, begin, name, entry, block, close, Typed, AllTyped, Writing, next, stores, accepted, last, run, addings}
 use Rattle.claims.proofs.Calls.{Idle, begin-refused, name-idle, entry-idle, block-refused, close-refused, begin-leaves, begin-keeps, begin-stores}
 use Rattle.claims.proofs.Calls.{Takes, block-takes, block-room, block-leaves, block-row, block-accepted, block-stores, close-leaves, close-stored, close-stores}
 use Rattle.claims.proofs.Disk.{endOf}
@@ -133,47 +134,6 @@ module _ (table : List ℕ) (xs : List Adding) (h : Writing) (b : Between table 
           room = room-after;
         }
 
--- ---- what the calls from there on store: the blocks of the later addings, and perhaps a closing
-
-pub data Ending (bs : List Block) : List Store → Type 0 where
-  stays : Ending bs []
-  ends : (d : List ℕ) → 1 ≤ length d → length d < 256 ^ 4 → Ending bs (closingStores (endOf bs) (rowsFrom 64 bs) d)
-
-pub record Form (xs later : List Adding) (ss : List Store) : Type 0 where
-  pub taken : Taken begunWriter (xs ++ later)
-  pub tail : List Store
-  pub ending : Ending (map blockFor (xs ++ later)) tail
-  pub shape : ss ≡ blockStores (length xs) (map blockFor later) ++ tail
-
-form-none : (xs : List Adding) → Taken begunWriter xs → Form xs [] []
-unfolding blockStores
-form-none xs t = record { taken = rw append-nil t; tail = []; ending = stays; shape = refl }
-
-form-more : (xs : List Adding) (a : Adding) (later : List Adding) (ss : List Store) → Form (xs ++ (a ∷ [])) later ss
-    → Form xs (a ∷ later) (blockStore (blockFor a) (blockBytes (length xs) (blockFor a)) ∷ ss)
-unfolding blockStores
-form-more xs a later ss f =
-    let e : (xs ++ (a ∷ [])) ++ later ≡ xs ++ (a ∷ later) = append-assoc xs (a ∷ []) later in
-    let n : length (xs ++ (a ∷ [])) ≡ suc (length xs) = omega (arith, length-append xs (a ∷ [])) in
-    record {
-      taken = rw e at (f .taken);
-      tail = f .tail;
-      ending = rw e at (f .ending);
-      shape = ap (λ (l : List Store). blockStore (blockFor a) (blockBytes (length xs) (blockFor a)) ∷ l) (rw n at (f .shape));
-    }
-
-form-closed : (xs : List Adding) (d : List ℕ) → Taken begunWriter xs → 1 ≤ length d → length d < 256 ^ 4
-    → Form xs [] (closingStores (endOf (map blockFor xs)) (rowsFrom 64 (map blockFor xs)) d)
-unfolding blockStores
-form-closed xs d t p q =
-    let e = append-nil xs in
-    record {
-      taken = rw e t;
-      tail = closingStores (endOf (map blockFor xs)) (rowsFrom 64 (map blockFor xs)) d;
-      ending = rw e (ends d p q);
-      shape = refl;
-    }
-
 -- ---- out of turn
 
 module _ (h : Writing) (e : isBegun (h .writer .turn) ≡ false) where
@@ -181,89 +141,12 @@ module _ (h : Writing) (e : isBegun (h .writer .turn) ≡ false) where
   unfolding blockRules
   block-out a out = block-refused h a out 17 0 (then-broken (begunRules (h .writer)) _ 17 0 (not-begun (h .writer) e))
 
-  close-out : (plain stored out : List ℕ) → Idle h (next h (close plain stored out)) × (stores h (close plain stored out) ≡ [])
+  pub close-turn : (plain stored out : List ℕ) → firstBroken (closeRules (h .writer) (h .table) plain stored (length out)) ≡ broken 17 0
   unfolding closeRules
-  close-out plain stored out = close-refused h plain stored out 17 0 (then-broken (begunRules (h .writer)) _ 17 0 (not-begun (h .writer) e))
+  close-turn plain stored out = then-broken (begunRules (h .writer)) _ 17 0 (not-begun (h .writer) e)
 
--- behind a closing nothing is stored
-run-closed : (h : Writing) (cs : List Call) → h .writer .turn ≡ turn.Closed → (run h cs ≡ []) × (addings h cs ≡ [])
-unfolding run addings stores accepted
-run-closed h [] e = (refl, refl)
-run-closed h (begin out ∷ cs) e =
-    let i = begin-refused h out 17 0 (begin-turn (h .writer) (length out) (closed-turn (h .writer .turn) e .0)) in
-    rw (i .1) (run-closed (next h (begin out)) cs (i .0 .turn ∙ e))
-run-closed h (name bytes ∷ cs) e = run-closed (next h (name bytes)) cs (name-idle h bytes .turn ∙ e)
-run-closed h (entry t text count fields ∷ cs) e = run-closed (next h (entry t text count fields)) cs (entry-idle h t text count fields .turn ∙ e)
-run-closed h (block a out ∷ cs) e =
-    let i = block-out h (closed-turn (h .writer .turn) e .1) a out in
-    rw (i .1, i .2) (run-closed (next h (block a out)) cs (i .0 .turn ∙ e))
-run-closed h (close plain stored out ∷ cs) e =
-    let i = close-out h (closed-turn (h .writer .turn) e .1) plain stored out in
-    rw (i .1) (run-closed (next h (close plain stored out)) cs (i .0 .turn ∙ e))
-
--- ---- every list of calls, from begin on
-
--- of calls from every such state
-abbrev Forms : List ℕ → List Call → Type 0
-Forms table cs = (xs : List Adding) (h : Writing) → Between table xs h → Form xs (addings h cs) (run h cs)
-
-module _ (table : List ℕ) (cs : List Call) (rest : Forms table cs) (xs : List Adding) (h : Writing) (b : Between table xs h) where
-  form-idle : (c : Call) → Idle h (next h c) → stores h c ≡ [] → accepted h c ≡ [] → Form xs (addings h (c ∷ cs)) (run h (c ∷ cs))
-  unfolding run addings
-  form-idle c i s a = rw (s, a) (rest xs (next h c) (idle-between table xs h (next h c) i b))
-
-  form-block : (a : Adding) (out : List ℕ) → Bytes (a .stored) → (v : Verdict) → firstBroken (blockRules (h .writer) a (length (h .table)) (length out)) ≡ v
-      → Form xs (addings h (block a out ∷ cs)) (run h (block a out ∷ cs))
-  unfolding run addings
-  form-block a out y sound e =
-      let k = next h (block a out) in
-      rw (block-is table xs h b a out y e, block-accepted h a out e)
-      (form-more xs a (addings k cs) (run k cs) (rest (xs ++ (a ∷ [])) k (block-between table xs h b a out y e)))
-  form-block a out y (broken n p) e =
-      let i = block-refused h a out n p e in
-      form-idle (block a out) (i .0) (i .1) (i .2)
-
-  form-close : (plain stored out : List ℕ) (v : Verdict) → firstBroken (closeRules (h .writer) (h .table) plain stored (length out)) ≡ v
-      → Form xs (addings h (close plain stored out ∷ cs)) (run h (close plain stored out ∷ cs))
-  unfolding run addings accepted closed
-  form-close plain stored out sound e =
-      let k = next h (close plain stored out) in
-      let q = run-closed k cs (ap (λ (w : Writer). w .turn) (close-leaves h plain stored out e)) in
-      let s = close-stored h plain stored out e in
-      rw (closing-is table xs h b plain stored out e, q .0, q .1, append-nil) (form-closed xs stored (b .taken) (s .0) (omega (arith, s .1)))
-  form-close plain stored out (broken n p) e =
-      let i = close-refused h plain stored out n p e in
-      form-idle (close plain stored out) (i .0) (i .1) refl
-
-pub form : (table : List ℕ) (cs : List Call) → AllTyped cs → Forms table cs
-unfolding run addings stores accepted
-form table [] t xs h b = form-none xs (b .taken)
-form table (begin out ∷ cs) t xs h b =
-    let i = begin-refused h out 17 0 (begin-turn (h .writer) (length out) (begun-turn (h .writer .turn) (b .turn) .0)) in
-    form-idle table cs (form table cs (t .1)) xs h b (begin out) (i .0) (i .1) refl
-form table (name bytes ∷ cs) t xs h b = form-idle table cs (form table cs (t .1)) xs h b (name bytes) (name-idle h bytes) refl refl
-form table (entry u text count fields ∷ cs) t xs h b =
-    form-idle table cs (form table cs (t .1)) xs h b (entry u text count fields) (entry-idle h u text count fields) refl refl
-form table (block a out ∷ cs) t xs h b =
-    form-block table cs (form table cs (t .1)) xs h b a out (t .0) (firstBroken (blockRules (h .writer) a (length (h .table)) (length out))) refl
-form table (close plain stored out ∷ cs) t xs h b =
-    form-close table cs (form table cs (t .1)) xs h b plain stored out (firstBroken (closeRules (h .writer) (h .table) plain stored (length out))) refl
-
--- ---- every list of calls, from a new writer
-
--- nothing is stored, or the stores are those of a writer that began, with the blocks of the accepted addings
-pub data Started (xs : List Adding) (ss : List Store) : Type 0 where
-  none : ss ≡ [] → Started xs ss
-  begun : Taken begunWriter xs → Begun (map blockFor xs) ss → Started xs ss
-
-begun-ending : (bs : List Block) (tail : List Store) → Ending bs tail → Begun bs (openStores bs ++ tail)
-unfolding closedStores
-begun-ending bs tail stays = rw append-nil stored.opened
-begun-ending bs tail (ends d p q) = stored.closed d p q
-
-started-form : (xs : List Adding) (ss : List Store) → Form [] xs ss → Started xs (headerStore (headerBytes emptyHeader) ∷ ss)
-unfolding openStores
-started-form xs ss f = begun (f .taken) (rw (f .shape) (begun-ending (map blockFor xs) (f .tail) (f .ending)))
+  close-out : (plain stored out : List ℕ) → Idle h (next h (close plain stored out)) × (stores h (close plain stored out) ≡ [])
+  close-out plain stored out = close-refused h plain stored out 17 0 (close-turn plain stored out)
 
 pub begin-between : (h : Writing) (out : List ℕ) → firstBroken (beginRules (h .writer) (length out)) ≡ sound → Between (h .table) [] (next h (begin out))
 unfolding after Taken rowsFrom tableBytes
@@ -280,30 +163,134 @@ begin-between h out e =
       room = omega arith;
     }
 
-module _ (cs : List Call) (t : AllTyped cs) (rest : (h : Writing) → h .writer .turn ≡ turn.New → Started (addings h cs) (run h cs)) (h : Writing) (n : h .writer .turn ≡ turn.New) where
-  start-idle : (c : Call) → Idle h (next h c) → stores h c ≡ [] → accepted h c ≡ [] → Started (addings h (c ∷ cs)) (run h (c ∷ cs))
-  unfolding run addings
-  start-idle c i s a = rw (s, a) (rest (next h c) (i .turn ∙ n))
+-- ---- where calls of a new writer lead, with the addings accepted and the stores so far
 
-  start-begin : (out : List ℕ) (v : Verdict) → firstBroken (beginRules (h .writer) (length out)) ≡ v → Started (addings h (begin out ∷ cs)) (run h (begin out ∷ cs))
-  unfolding run addings accepted
-  start-begin out sound e =
-      let k = next h (begin out) in
-      rw (begin-stores h out e) (started-form (addings k cs) (run k cs) (form (h .table) cs t [] k (begin-between h out e)))
-  start-begin out (broken m p) e =
+-- not begun, with nothing stored; between begin and closing; or closed
+pub data Stage (table : List ℕ) (xs : List Adding) (ss : List Store) (h : Writing) : Type 0 where
+  fresh : h .writer .turn ≡ turn.New → h .table ≡ table → xs ≡ [] → ss ≡ [] → Stage table xs ss h
+  amid : Between table xs h → ss ≡ openStores (map blockFor xs) → Stage table xs ss h
+  done : h .writer .turn ≡ turn.Closed → Taken begunWriter xs → (d : List ℕ) → 1 ≤ length d → length d < 256 ^ 4 → ss ≡ closedStores (map blockFor xs) d
+      → Stage table xs ss h
+
+stage-idle : (table : List ℕ) (xs : List Adding) (ss : List Store) (h k : Writing) → Idle h k → Stage table xs ss h → Stage table xs ss k
+stage-idle table xs ss h k i (fresh n t x s) = fresh (i .turn ∙ n) (i .table ∙ t) x s
+stage-idle table xs ss h k i (amid b s) = amid (idle-between table xs h k i b) s
+stage-idle table xs ss h k i (done c t d p q s) = done (i .turn ∙ c) t d p q s
+
+-- one block more
+stores-more : (n : ℕ) (bs : List Block) (b : Block) → blockStores n (bs ++ (b ∷ [])) ≡ blockStores n bs ++ (blockStore b (blockBytes (n + length bs) b) ∷ [])
+unfolding blockStores
+stores-more n [] b = rw add-zero
+stores-more n (c ∷ bs) b =
+    let e : n + suc (length bs) ≡ suc n + length bs = omega arith in
+    rw (e, stores-more (suc n) bs b)
+
+open-more : (xs : List Adding) (a : Adding)
+    → openStores (map blockFor (xs ++ (a ∷ []))) ≡ openStores (map blockFor xs) ++ (blockStore (blockFor a) (blockBytes (length xs) (blockFor a)) ∷ [])
+unfolding openStores
+open-more xs a =
+    let n : 0 + length (map blockFor xs) ≡ length xs = omega (arith, length-map xs blockFor) in
+    rw (map-append blockFor xs (a ∷ []), stores-more 0 (map blockFor xs) (blockFor a), n)
+
+-- one call more
+module _ (table : List ℕ) (xs : List Adding) (ss : List Store) (h : Writing) where
+  abbrev Behind : Call → Type 0
+  Behind c = Stage table (xs ++ accepted h c) (ss ++ stores h c) (next h c)
+
+  behind-idle : (c : Call) → Stage table xs ss h → Idle h (next h c) → stores h c ≡ [] → accepted h c ≡ [] → Behind c
+  behind-idle c g i s a = rw (s, a, append-nil xs, append-nil ss) (stage-idle table xs ss h (next h c) i g)
+
+  begin-fresh : (out : List ℕ) → h .writer .turn ≡ turn.New → h .table ≡ table → xs ≡ [] → ss ≡ [] → (v : Verdict)
+      → firstBroken (beginRules (h .writer) (length out)) ≡ v → Behind (begin out)
+  unfolding accepted openStores blockStores
+  begin-fresh out n t x s sound e = rw (x, s, begin-stores h out e) (amid (subst (λ (u : List ℕ). Between u [] (next h (begin out))) t (begin-between h out e)) refl)
+  begin-fresh out n t x s (broken m p) e =
       let i = begin-refused h out m p e in
-      start-idle (begin out) (i .0) (i .1) refl
+      behind-idle (begin out) (fresh n t x s) (i .0) (i .1) refl
+
+  begin-behind : (out : List ℕ) → Stage table xs ss h → Behind (begin out)
+  unfolding accepted
+  begin-behind out (fresh n t x s) = begin-fresh out n t x s (firstBroken (beginRules (h .writer) (length out))) refl
+  begin-behind out (amid b s) =
+      let i = begin-refused h out 17 0 (begin-turn (h .writer) (length out) (begun-turn (h .writer .turn) (b .turn) .0)) in
+      behind-idle (begin out) (amid b s) (i .0) (i .1) refl
+  begin-behind out (done c t d p q s) =
+      let i = begin-refused h out 17 0 (begin-turn (h .writer) (length out) (closed-turn (h .writer .turn) c .0)) in
+      behind-idle (begin out) (done c t d p q s) (i .0) (i .1) refl
+
+  block-amid : (a : Adding) (out : List ℕ) → Bytes (a .stored) → Between table xs h → ss ≡ openStores (map blockFor xs) → (v : Verdict)
+      → firstBroken (blockRules (h .writer) a (length (h .table)) (length out)) ≡ v → Behind (block a out)
+  block-amid a out y b s sound e =
+      rw (block-accepted h a out e)
+      (amid (block-between table xs h b a out y e) (rw (s, block-is table xs h b a out y e, open-more xs a)))
+  block-amid a out y b s (broken n p) e =
+      let i = block-refused h a out n p e in
+      behind-idle (block a out) (amid b s) (i .0) (i .1) (i .2)
+
+  block-behind : (a : Adding) (out : List ℕ) → Bytes (a .stored) → Stage table xs ss h → Behind (block a out)
+  block-behind a out y (fresh n t x s) =
+      let i = block-out h (new-turn (h .writer .turn) n .1) a out in
+      behind-idle (block a out) (fresh n t x s) (i .0) (i .1) (i .2)
+  block-behind a out y (amid b s) = block-amid a out y b s (firstBroken (blockRules (h .writer) a (length (h .table)) (length out))) refl
+  block-behind a out y (done c t d p q s) =
+      let i = block-out h (closed-turn (h .writer .turn) c .1) a out in
+      behind-idle (block a out) (done c t d p q s) (i .0) (i .1) (i .2)
+
+  close-amid : (plain stored out : List ℕ) → Between table xs h → ss ≡ openStores (map blockFor xs) → (v : Verdict)
+      → firstBroken (closeRules (h .writer) (h .table) plain stored (length out)) ≡ v → Behind (close plain stored out)
+  unfolding accepted closed closedStores
+  close-amid plain stored out b s sound e =
+      let l = close-stored h plain stored out e in
+      rw (append-nil xs)
+      (done (ap (λ (w : Writer). w .turn) (close-leaves h plain stored out e)) (b .taken) stored (l .0) (omega (arith, l .1))
+      (rw (s, closing-is table xs h b plain stored out e)))
+  close-amid plain stored out b s (broken n p) e =
+      let i = close-refused h plain stored out n p e in
+      behind-idle (close plain stored out) (amid b s) (i .0) (i .1) refl
+
+  close-behind : (plain stored out : List ℕ) → Stage table xs ss h → Behind (close plain stored out)
+  unfolding accepted
+  close-behind plain stored out (fresh n t x s) =
+      let i = close-out h (new-turn (h .writer .turn) n .1) plain stored out in
+      behind-idle (close plain stored out) (fresh n t x s) (i .0) (i .1) refl
+  close-behind plain stored out (amid b s) =
+      close-amid plain stored out b s (firstBroken (closeRules (h .writer) (h .table) plain stored (length out))) refl
+  close-behind plain stored out (done c t d p q s) =
+      let i = close-out h (closed-turn (h .writer .turn) c .1) plain stored out in
+      behind-idle (close plain stored out) (done c t d p q s) (i .0) (i .1) refl
+
+  stage-next : (c : Call) → Typed c → Stage table xs ss h → Behind c
+  unfolding stores accepted
+  stage-next (begin out) t g = begin-behind out g
+  stage-next (name bytes) t g = behind-idle (name bytes) g (name-idle h bytes) refl refl
+  stage-next (entry u text count fields) t g = behind-idle (entry u text count fields) g (entry-idle h u text count fields) refl refl
+  stage-next (block a out) t g = block-behind a out t g
+  stage-next (close plain stored out) t g = close-behind plain stored out g
+
+-- every list of calls
+pub stage : (table : List ℕ) (cs : List Call) → AllTyped cs → (xs : List Adding) (ss : List Store) (h : Writing) → Stage table xs ss h
+    → Stage table (xs ++ addings h cs) (ss ++ run h cs) (last h cs)
+unfolding run addings last
+stage table [] t xs ss h g = rw (append-nil xs, append-nil ss) g
+stage table (c ∷ cs) t xs ss h g =
+    let k = next h c in
+    rw (← append-assoc xs (accepted h c) (addings k cs), ← append-assoc ss (stores h c) (run k cs))
+    (stage table cs (t .1) (xs ++ accepted h c) (ss ++ stores h c) k (stage-next table xs ss h c (t .0) g))
+
+-- ---- every list of calls, from a new writer
+
+pub stage-new : (cs : List Call) → AllTyped cs → (h : Writing) → h .writer .turn ≡ turn.New → Stage (h .table) (addings h cs) (run h cs) (last h cs)
+stage-new cs t h n = stage (h .table) cs t [] [] h (fresh n refl refl refl)
+
+-- nothing is stored, or the stores are those of a writer that began, with the blocks of the accepted addings
+pub data Started (xs : List Adding) (ss : List Store) : Type 0 where
+  none : ss ≡ [] → Started xs ss
+  begun : Taken begunWriter xs → Begun (map blockFor xs) ss → Started xs ss
+
+started : (table : List ℕ) (xs : List Adding) (ss : List Store) (h : Writing) → Stage table xs ss h → Started xs ss
+started table xs ss h (fresh n t x s) = none s
+started table xs ss h (amid b s) = begun (b .taken) (rw s stored.opened)
+started table xs ss h (done c t d p q s) = begun t (rw s (stored.closed d p q))
 
 pub start : (cs : List Call) → AllTyped cs → (h : Writing) → h .writer .turn ≡ turn.New → Started (addings h cs) (run h cs)
-unfolding run stores accepted
-start [] t h n = none refl
-start (begin out ∷ cs) t h n = start-begin cs (t .1) (start cs (t .1)) h n out (firstBroken (beginRules (h .writer) (length out))) refl
-start (name bytes ∷ cs) t h n = start-idle cs (t .1) (start cs (t .1)) h n (name bytes) (name-idle h bytes) refl refl
-start (entry u text count fields ∷ cs) t h n =
-    start-idle cs (t .1) (start cs (t .1)) h n (entry u text count fields) (entry-idle h u text count fields) refl refl
-start (block a out ∷ cs) t h n =
-    let i = block-out h (new-turn (h .writer .turn) n .1) a out in
-    start-idle cs (t .1) (start cs (t .1)) h n (block a out) (i .0) (i .1) (i .2)
-start (close plain stored out ∷ cs) t h n =
-    let i = close-out h (new-turn (h .writer .turn) n .1) plain stored out in
-    start-idle cs (t .1) (start cs (t .1)) h n (close plain stored out) (i .0) (i .1) refl
+start cs t h n = started (h .table) (addings h cs) (run h cs) (last h cs) (stage-new cs t h n)
