@@ -32,7 +32,8 @@ use Rattle.claims.proofs.Taken.{after, Taken, taken-next, taken-first, 
 use Rattle.claims.proofs.Plain.{plainOf, plain-count, plain-sound}
 use Rattle.claims.proofs.Runs.{Between, block-is, block-between, begin-between, closing-is}
 
-run-append : (h : Writing) (cs ds : List Call) → run h (cs ++ ds) ≡ run h cs ++ run (last h cs) ds
+-- stores of calls, and of later ones
+pub run-append : (h : Writing) (cs ds : List Call) → run h (cs ++ ds) ≡ run h cs ++ run (last h cs) ds
 unfolding run last
 run-append h [] ds = refl
 run-append h (c ∷ cs) ds = rw (run-append (next h c) cs ds, append-assoc)
@@ -106,7 +107,8 @@ module _ (table out : List ℕ) where
 
 -- ---- begin, the addings, and a closing
 
-settle-sound : {A : Type 0} (v : Verdict) (a : A) → verdictIn (settle v a) ≡ v
+-- an answer says what its rules say
+pub settle-sound : {A : Type 0} (v : Verdict) (a : A) → verdictIn (settle v a) ≡ v
 settle-sound sound a = refl
 settle-sound (broken n p) a = refl
 

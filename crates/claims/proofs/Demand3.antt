@@ -15,14 +15,13 @@ use Rattle.layout.proofs.Along.{length-rows-from}
 use Rattle.writer.specs.State.{begunWriter}
 use Rattle.writer.specs.Block.{blockFor}
 use Rattle.recovery.specs.Recovery.{reportOf}
-use Rattle.claims.specs.Blocks.{Valid}
 use Rattle.claims.specs.Disk.{Store, Begun, disk, finished, dictionariesInFull, some}
 use Rattle.claims.specs.Calls.{Call, Writing, newWriting, run, addings, addingsInFull}
 use Rattle.claims.specs.Demand3.{Recovery, Repair, Room, finishedAgain, Closes, Finishes, AtCut, Demand3}
 use Rattle.claims.proofs.Disk.{View, before, behind, view, finished-closed}
 use Rattle.claims.proofs.Recovers.{Reports, recovers, recover-gives, recover-leaves}
 use Rattle.claims.proofs.Repairs.{Gives, repair-gives, repair-leaves, Repairs, repairs}
-use Rattle.claims.proofs.Taken.{after, Taken, taken-valid, taken-few, taken-first}
+use Rattle.claims.proofs.Taken.{after, Taken, blocks-valid, blocks-few, taken-first}
 use Rattle.claims.proofs.Runs.{Started, none, begun, start}
 use Rattle.claims.proofs.InFull.{blocks-in-full, in-full-front}
 use Rattle.claims.proofs.Plain.{plainOf}
@@ -78,17 +77,11 @@ not-one (d ∷ ds) e = absurd (let z : _≡_ {A = ℕ} 0 1 = cc in omega arith)
 
 module _ (h : Writing) (cs : List Call) (t : Taken begunWriter (addings h cs)) (b : Begun (map blockFor (addings h cs)) (run h cs)) (cut : ℕ)
     (stands : 64 ≤ length (disk cut [] (run h cs))) where
-  valid : Valid 0 (map blockFor (addings h cs))
-  valid = taken-valid begunWriter (addings h cs) t
-
-  few : length (map blockFor (addings h cs)) ≤ 4096
-  few = omega (arith, taken-few begunWriter (addings h cs) t (omega arith), length-map (addings h cs) blockFor)
-
   reports : Reports (disk cut [] (run h cs)) (map blockFor (addingsInFull 0 cut h cs)) (dictionariesInFull cut (run h cs))
-  reports = rw (blocks-in-full 0 cut h cs) at (recovers (map blockFor (addings h cs)) valid few b cut stands)
+  reports = rw (blocks-in-full 0 cut h cs) at (recovers (map blockFor (addings h cs)) (blocks-valid (addings h cs) t) (blocks-few (addings h cs) t) b cut stands)
 
   mends : Repairs (run h cs) cut
-  mends = repairs (map blockFor (addings h cs)) valid few b cut stands
+  mends = repairs (map blockFor (addings h cs)) (blocks-valid (addings h cs) t) (blocks-few (addings h cs) t) b cut stands
 
   taken-in-full : Taken begunWriter (addingsInFull 0 cut h cs)
   taken-in-full =

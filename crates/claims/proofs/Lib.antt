@@ -1,4 +1,4 @@
--- The claims: the worked cases, what recovery and repair find on a disk that was cut, that a finished file opens, and demand 3.
+-- The claims: the worked cases, what recovery and repair find on a disk that was cut, that a finished file opens, and demands 2 and 3.
 pub mod Worked
 pub mod Lengths
 pub mod Full
@@ -16,4 +16,5 @@ pub mod InFull
 pub mod Again
 pub mod Plain
 pub mod Demand3
+pub mod Demand2
 pub mod Examples

@@ -4,7 +4,7 @@ use mathlib.Core.Bool.{true}
 use mathlib.Core.List.{List, [], _∷_, _++_, map}
 use Prim.Native.Nat.{ℕ, _+_, _≤_}
 use native.Mathlib.Omega.{arith}
-use lib.ListN.{length}
+use lib.ListN.{length, length-map}
 use borrow.Author.Tests.{leb-true}
 use Rattle.verdict.specs.Rules.{holds, sound, firstBroken, Outcome, given, refused}
 use Rattle.verdict.proofs.Laws.{sound-held}
@@ -95,6 +95,14 @@ unfolding Taken withBlock
 taken-few w [] t h = omega arith
 taken-few w (a ∷ xs) t h = omega (arith, taken-few (withBlock w a) xs (t .1) (facts w a (t .0 .0) .blocks))
 
+-- of a writer that just began
+module _ (xs : List Adding) (t : Taken begunWriter xs) where
+  pub blocks-valid : Valid 0 (map blockFor xs)
+  blocks-valid = taken-valid begunWriter xs t
+
+  pub blocks-few : length (map blockFor xs) ≤ 4096
+  blocks-few = omega (arith, taken-few begunWriter xs t (omega arith), length-map xs blockFor)
+
 -- ---- one adding more, and fewer of them
 
 module _ (a : Adding) where
@@ -117,6 +125,18 @@ pub taken-first : (w : Writer) (xs ys : List Adding) → Taken w (xs ++ ys) → 
 unfolding Taken
 taken-first w [] ys t = tt
 taken-first w (x ∷ xs) ys t = (t .0, taken-first (withBlock w x) xs ys (t .1))
+
+-- ---- the names that they were given: none is given fewer than one before
+
+given-grows : (w : Writer) (xs : List Adding) → Taken w xs → w .given ≤ after w xs .given
+unfolding Taken after withBlock
+given-grows w [] t = omega arith
+given-grows w (a ∷ xs) t = omega (arith, facts w a (t .0 .0) .given, given-grows (withBlock w a) xs (t .1))
+
+pub names-given : (a : Adding) (w : Writer) (xs ys : List Adding) → Taken w (xs ++ (a ∷ ys)) → a .names ≤ after w (xs ++ (a ∷ ys)) .given
+unfolding Taken after withBlock
+names-given a w [] ys t = given-grows (withBlock w a) ys (t .1)
+names-given a w (x ∷ xs) ys t = names-given a (withBlock w x) xs ys (t .1)
 
 -- ---- the state behind them
 

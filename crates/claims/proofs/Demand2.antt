@@ -1,0 +1,168 @@
+-- Demand 2, proved: what any list of calls and an accepted closing store opens, and its blocks are read as the addings took them. Assumes nothing.
+use mathlib.Core.Path.{_≡_, refl, sym, ap, _∙_}
+use mathlib.Core.List.{List, [], _∷_, _++_, map, map-append, append-nil}
+use Prim.Native.Nat.{ℕ, _+_, _*_, _^_, _≤_, _<_}
+use native.Mathlib.Omega.{arith}
+use lib.ListN.{length, length-map}
+use Rattle.verdict.specs.Rules.{sound, broken, firstBroken, Outcome, given, refused, verdictIn}
+use Rattle.wire.specs.Wire.{leAt}
+use Rattle.parts.specs.declared.BlockHeader.{BlockHeader}
+use Rattle.parts.specs.declared.time.Epoch.{Epoch}
+use Rattle.rows.specs.Rows.{stride, tableBytes}
+use Rattle.rows.proofs.Rows.{length-table}
+use Rattle.layout.specs.Layout.{Block, headOf, rowFor, rowsFrom, endFrom}
+use Rattle.layout.proofs.Along.{length-rows-from}
+use Rattle.blocks.specs.Blocks.{headAt}
+use Rattle.entries.specs.Model.{Entry}
+use Rattle.entries.specs.Reading.{entriesOf}
+use Rattle.entries.proofs.RoundTrip as trips
+use Rattle.names.specs.Dictionary.{dictionaryOf}
+use Rattle.reader.specs.Open.{openOut, rowIn, dictionaryIn}
+use Rattle.writer.specs.State.{begunWriter}
+use Rattle.writer.specs.Block.{Adding, readBy, blockFor}
+use Rattle.writer.specs.Close.{closeRules, closeOf}
+use Rattle.writer.proofs.Closes.{close-good}
+use Rattle.writer.proofs.Turns.{new-turn, closed-turn}
+use Rattle.claims.specs.Disk.{Store, openStores, closedStores, finished}
+use Rattle.claims.specs.Calls.{Call, close, AllTyped, Writing, newWriting, last, run, addings}
+use Rattle.claims.specs.Demand2.{Closing, fileOf, Opening, Reading, Finished, Demand2, RoundTrips, EntryTrips}
+use Rattle.claims.proofs.Disk.{finished-closed}
+use Rattle.claims.proofs.Opens.{finishedFile, finishedFrame, opens, frame-finished, dictionary-finished, head-finished, stored-finished, row-finished}
+use Rattle.claims.proofs.Readings.{more-names, block-finished}
+use Rattle.claims.proofs.Taken.{after, Taken, blocks-valid, blocks-few, taken-next, names-given}
+use Rattle.claims.proofs.Runs.{Between, Stage, fresh, amid, done, stage-new, close-turn, closing-is}
+use Rattle.claims.proofs.Again.{run-append, settle-sound}
+
+-- ---- the file of addings that were taken, and a dictionary
+
+-- what an adding that is accepted read
+read-some : (o : Outcome (List Entry)) → verdictIn o ≡ sound → (es : List Entry) × (o ≡ given es)
+read-some (given es) e = (es, refl)
+read-some (refused n p) e = absurd (let z : _≡_ {A = ℕ} 0 1 = cc in omega arith)
+
+module _ (xs : List Adding) (t : Taken begunWriter xs) (stored : List ℕ) (some : 1 ≤ length stored) (fits : length stored < 256 ^ 4) where
+  rows-room : (table : List ℕ) → length xs * stride ≤ length table → length (tableBytes (rowsFrom 64 (map blockFor xs))) ≤ length table
+  rows-room table h = let bs = map blockFor xs in omega (arith, length-table (rowsFrom 64 bs), length-rows-from 64 bs, length-map xs blockFor)
+
+  opening : (table : List ℕ) → length xs * stride ≤ length table → Opening (finishedFile (map blockFor xs) stored) table stored (map blockFor xs)
+  opening table h =
+      let bs = map blockFor xs in
+      let f = finishedFile bs stored in
+      let v = blocks-valid xs t in
+      let few = blocks-few xs t in
+      let o = opens bs v few stored some fits table (rows-room table h) in
+      record {
+        frame = finishedFrame bs stored;
+        gives = o .gives;
+        blocks = refl;
+        place = refl;
+        size = refl;
+        index = refl;
+        first = refl;
+        last = refl;
+        leaves = o .leaves;
+        dictionary = ap (dictionaryIn f) (sym (frame-finished bs v few stored some fits)) ∙ dictionary-finished bs v few stored some fits;
+      }
+
+  -- each block
+  module _ (before : List Adding) (a : Adding) (after-it : List Adding) (split : xs ≡ before ++ (a ∷ after-it)) where
+    split-blocks : map blockFor xs ≡ map blockFor before ++ (blockFor a ∷ map blockFor after-it)
+    split-blocks = ap (map blockFor) split ∙ map-append blockFor before (a ∷ after-it)
+
+    read-here : (es : List Entry) × (readBy a ≡ given es)
+    read-here = read-some (readBy a) (taken-next a begunWriter before after-it (rw split at t) .0 .read)
+
+    head-here : headAt (finishedFile (map blockFor xs) stored) (endFrom 64 (map blockFor before)) ≡ headOf (length (map blockFor before)) (blockFor a)
+    head-here =
+        head-finished (map blockFor xs) (blocks-valid xs t) (blocks-few xs t) stored some fits (map blockFor before) (blockFor a) (map blockFor after-it) split-blocks
+
+    start-here : headAt (finishedFile (map blockFor xs) stored) (endFrom 64 (map blockFor before)) .start ≡ a .start
+    unfolding headOf blockFor
+    start-here = ap (λ (h : BlockHeader). h .start) head-here
+
+    located-here : (table : List ℕ) → length xs * stride ≤ length table
+        → rowIn (openOut (finishedFile (map blockFor xs) stored) table) (length xs) (length before) ≡ given (rowFor (endFrom 64 (map blockFor before)) (blockFor a))
+    located-here table h =
+        let r =
+        row-finished (map blockFor xs) (blocks-valid xs t) (blocks-few xs t) stored some fits (map blockFor before) (blockFor a) (map blockFor after-it)
+        split-blocks table (rows-room table h) in
+        let o = openOut (finishedFile (map blockFor xs) stored) table in
+        ap (λ (n : ℕ). rowIn o n (length before)) (sym (length-map xs blockFor))
+        ∙ ap (λ (i : ℕ). rowIn o (length (map blockFor xs)) i) (sym (length-map before blockFor)) ∙ r
+
+    reading : (names : ℕ) → after begunWriter xs .given ≤ names → (table : List ℕ) → length xs * stride ≤ length table
+        → Reading (finishedFile (map blockFor xs) stored) (openOut (finishedFile (map blockFor xs) stored) table) (length xs) names before a
+    unfolding rowFor blockFor
+    reading names known table h =
+        let bs = map blockFor xs in
+        let v = blocks-valid xs t in
+        let few = blocks-few xs t in
+        let es = read-here .0 in
+        let e = read-here .1 in
+        let g : a .names ≤ after begunWriter xs .given = rw (← split) at (names-given a begunWriter before after-it (rw split at t)) in
+        let l : a .names ≤ names = omega arith in
+        record {
+          row = rowFor (endFrom 64 (map blockFor before)) (blockFor a);
+          located = located-here table h;
+          row-is = refl;
+          stored = stored-finished bs v few stored some fits (map blockFor before) (blockFor a) (map blockFor after-it) split-blocks;
+          start = start-here;
+          accepted = block-finished bs v few stored some fits a es e names l (map blockFor before) (map blockFor after-it) split-blocks;
+          entries = es;
+          took = e;
+          reads = ap (λ (s : Epoch). entriesOf (a .plain) (s .0) names) start-here ∙ more-names a es e names l;
+        }
+
+  finished-file : (plain : List ℕ) → dictionaryOf plain ≡ given (leAt 4 plain 0) → after begunWriter xs .given ≤ leAt 4 plain 0
+      → Finished (finishedFile (map blockFor xs) stored) xs plain stored
+  finished-file plain names known =
+      record { opens = opening; blocks = λ table h before a later split. reading before a later split (leAt 4 plain 0) known table h; names = names }
+
+-- ---- calls, and a closing that is accepted behind them
+
+-- it is accepted between begin and closing only
+closing-amid : (table : List ℕ) (xs : List Adding) (ss : List Store) (k : Writing) (plain stored out : List ℕ)
+    → firstBroken (closeRules (k .writer) (k .table) plain stored (length out)) ≡ sound → Stage table xs ss k
+    → Between table xs k × (ss ≡ openStores (map blockFor xs))
+closing-amid table xs ss k plain stored out e (fresh n t x s) =
+    absurd (let z : _≡_ {A = ℕ} 0 1 = cc (e, close-turn k (new-turn (k .writer .turn) n .1) plain stored out) in omega arith)
+closing-amid table xs ss k plain stored out e (amid b s) = (b, s)
+closing-amid table xs ss k plain stored out e (done c t d p q s) =
+    absurd (let z : _≡_ {A = ℕ} 0 1 = cc (e, close-turn k (closed-turn (k .writer .turn) c .1) plain stored out) in omega arith)
+
+module _ (h : Writing) (cs : List Call) (plain stored out : List ℕ)
+    (e : firstBroken (closeRules (last h cs .writer) (last h cs .table) plain stored (length out)) ≡ sound)
+    (b : Between (h .table) (addings h cs) (last h cs)) (s : run h cs ≡ openStores (map blockFor (addings h cs))) where
+  run-closes : run h (cs ++ (close plain stored out ∷ [])) ≡ closedStores (map blockFor (addings h cs)) stored
+  unfolding run closedStores
+  run-closes = run-append h cs (close plain stored out ∷ []) ∙ rw (s, closing-is (h .table) (addings h cs) (last h cs) b plain stored out e, append-nil)
+
+  finishes : Finished (fileOf h cs plain stored out) (addings h cs) plain stored
+  finishes =
+      let xs = addings h cs in
+      let g = close-good (last h cs .writer) (last h cs .table) plain stored (length out) e in
+      let n : after begunWriter xs .given ≤ leAt 4 plain 0 = rw (b .given) at (g .given) in
+      rw (ap finished run-closes ∙ finished-closed (map blockFor xs) stored)
+      (finished-file xs (b .taken) stored (g .some) (omega (arith, g .fits)) plain (g .dictionary) n)
+
+pub demand-2 : Demand2
+unfolding Demand2 closeOf
+demand-2 d p table cs typed plain stored out c =
+    let h = newWriting d p table in
+    let k = last h cs in
+    let e = sym (settle-sound (firstBroken (closeRules (k .writer) (k .table) plain stored (length out))) _) ∙ c in
+    let i = closing-amid (h .table) (addings h cs) (run h cs) k plain stored out e (stage-new cs typed h refl) in
+    finishes h cs plain stored out e (i .0) (i .1)
+
+-- ---- plain bytes and entries
+
+pub entry-trips : EntryTrips
+unfolding EntryTrips
+entry-trips names start es =
+    record {
+      read-packed = trips.read-packed names start es;
+      packed-short = trips.packed-short names start es;
+      packed-read = λ s bytes accepted. trips.packed-read names start es s accepted bytes;
+      packed-anew = λ s bytes accepted. trips.packed-anew names start es s accepted bytes;
+      read-appended = trips.read-appended names start es;
+    }
