@@ -26,7 +26,7 @@ use Rattle.writer.proofs.Beginning.{begin-sound}
 use Rattle.claims.specs.Disk.{Store, headerStore, blockStore, blockStores, openStores, closedStores}
 use Rattle.claims.specs.Calls.{Call, begin, block, close, Writing, newWriting, next, stores, last, run, again}
 use Rattle.claims.specs.Demand3.{Closes, Room}
-use Rattle.claims.proofs.Lengths.{length-blocks}
+use Rattle.claims.proofs.Blocks.{length-blocks}
 use Rattle.claims.proofs.Calls.{begin-leaves, begin-stores, block-leaves}
 use Rattle.claims.proofs.Taken.{after, Taken, taken-next, taken-first, after-more, after-blocks, after-pending, after-begun, after-given}
 use Rattle.claims.proofs.Plain.{plainOf, plain-count, plain-sound}

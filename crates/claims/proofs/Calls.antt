@@ -17,7 +17,7 @@ use Rattle.parts.proofs.Parts.{length-header, length-footer}
 use Rattle.entries.specs.declared.steps.Field.{Field}
 use Rattle.rows.specs.Rows.{stride, rowsOf, tableBytes}
 use Rattle.layout.specs.Layout.{blockBytes, blockSize, rowFor, dictionaryBytes, indexBytes, tailBytes, closedHeader, closingBytes}
-use Rattle.layout.proofs.Parts.{length-block}
+use Rattle.layout.proofs.Parts.{length-block, length-dictionary}
 use Rattle.packing.specs.Rules.{largest}
 use Rattle.lookup.specs.Lookup.{Found, numbered, missing}
 use Rattle.writer.proofs.Blocks.{block-fits}
@@ -31,7 +31,6 @@ use Rattle.writer.specs.Block.{Adding, readBy, blockFor, takeRules, blockRules,
 use Rattle.writer.specs.Close.{lastBytes, closeRules, closed, closeOf, closeOut}
 use Rattle.claims.specs.Disk.{headerStore, blockStore, closingStores}
 use Rattle.claims.specs.Calls.{begin, name, entry, block, close, Writing, next, lastStores, stores, accepted}
-use Rattle.claims.proofs.Lengths.{length-dictionary}
 
 -- rules behind rules hold where all of them do
 pub parts-sound : (rs qs : List Rule) → firstBroken (rs ++ qs) ≡ sound → (firstBroken rs ≡ sound) × (firstBroken qs ≡ sound)

@@ -1,16 +1,17 @@
 -- Demand 2, proved: what any list of calls and an accepted closing store opens, and its blocks are read as the addings took them. Assumes nothing.
 use mathlib.Core.Path.{_≡_, refl, sym, ap, _∙_}
 use mathlib.Core.List.{List, [], _∷_, _++_, map, map-append, append-nil}
-use Prim.Native.Nat.{ℕ, _+_, _*_, _^_, _≤_, _<_}
+use Prim.Native.Nat.{ℕ, _*_, _^_, _≤_, _<_}
 use native.Mathlib.Omega.{arith}
 use lib.ListN.{length, length-map}
-use Rattle.verdict.specs.Rules.{sound, broken, firstBroken, Outcome, given, refused, verdictIn}
+use Rattle.verdict.specs.Rules.{sound, firstBroken, Outcome, given, refused, verdictIn}
+use Rattle.verdict.proofs.Laws.{never-both}
 use Rattle.wire.specs.Wire.{leAt}
 use Rattle.parts.specs.declared.BlockHeader.{BlockHeader}
 use Rattle.parts.specs.declared.time.Epoch.{Epoch}
 use Rattle.rows.specs.Rows.{stride, tableBytes}
 use Rattle.rows.proofs.Rows.{length-table}
-use Rattle.layout.specs.Layout.{Block, headOf, rowFor, rowsFrom, endFrom}
+use Rattle.layout.specs.Layout.{headOf, rowFor, rowsFrom, endFrom}
 use Rattle.layout.proofs.Along.{length-rows-from}
 use Rattle.blocks.specs.Blocks.{headAt}
 use Rattle.entries.specs.Model.{Entry}
@@ -24,8 +25,8 @@ use Rattle.writer.specs.Close.{closeRules, closeOf}
 use Rattle.writer.proofs.Closes.{close-good}
 use Rattle.writer.proofs.Turns.{new-turn, closed-turn}
 use Rattle.claims.specs.Disk.{Store, openStores, closedStores, finished}
-use Rattle.claims.specs.Calls.{Call, close, AllTyped, Writing, newWriting, last, run, addings}
-use Rattle.claims.specs.Demand2.{Closing, fileOf, Opening, Reading, Finished, Demand2, RoundTrips, EntryTrips}
+use Rattle.claims.specs.Calls.{Call, close, Writing, newWriting, last, run, addings}
+use Rattle.claims.specs.Demand2.{fileOf, Opening, Reading, Finished, Demand2, EntryTrips}
 use Rattle.claims.proofs.Disk.{finished-closed}
 use Rattle.claims.proofs.Opens.{finishedFile, finishedFrame, opens, frame-finished, dictionary-finished, head-finished, stored-finished, row-finished}
 use Rattle.claims.proofs.Readings.{more-names, block-finished}
@@ -125,10 +126,10 @@ closing-amid : (table : List ℕ) (xs : List Adding) (ss : List Store) (k : Writ
     → firstBroken (closeRules (k .writer) (k .table) plain stored (length out)) ≡ sound → Stage table xs ss k
     → Between table xs k × (ss ≡ openStores (map blockFor xs))
 closing-amid table xs ss k plain stored out e (fresh n t x s) =
-    absurd (let z : _≡_ {A = ℕ} 0 1 = cc (e, close-turn k (new-turn (k .writer .turn) n .1) plain stored out) in omega arith)
+    absurd (never-both _ 17 0 (close-turn k (new-turn (k .writer .turn) n .1) plain stored out) e)
 closing-amid table xs ss k plain stored out e (amid b s) = (b, s)
 closing-amid table xs ss k plain stored out e (done c t d p q s) =
-    absurd (let z : _≡_ {A = ℕ} 0 1 = cc (e, close-turn k (closed-turn (k .writer .turn) c .1) plain stored out) in omega arith)
+    absurd (never-both _ 17 0 (close-turn k (closed-turn (k .writer .turn) c .1) plain stored out) e)
 
 module _ (h : Writing) (cs : List Call) (plain stored out : List ℕ)
     (e : firstBroken (closeRules (last h cs .writer) (last h cs .table) plain stored (length out)) ≡ sound)

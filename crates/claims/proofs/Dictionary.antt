@@ -12,9 +12,9 @@ use Rattle.wire.specs.Wire.{le, leAt, part}
 use Rattle.wire.proofs.Lists.{take-past}
 use Rattle.wire.proofs.Numbers.{length-le, leAt-drop, leAt-le}
 use Rattle.layout.specs.Layout.{dictionaryBytes}
+use Rattle.layout.proofs.Parts.{length-dictionary}
 use Rattle.frame.specs.Frame.{sizeAt, wholeDictionary}
 use Rattle.frame.proofs.Rules.{dictionary-short, dictionary-cut, dictionary-sound, whole-sound, whole-broken}
-use Rattle.claims.proofs.Lengths.{length-dictionary}
 
 module _ (d : List ℕ) (some-byte : 1 ≤ length d) (fits : length d < 256 ^ 4) (f : List ℕ) (at : ℕ) (above : 1 ≤ at) where
   -- its size is read wherever its first four bytes stand

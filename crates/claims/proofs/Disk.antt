@@ -14,10 +14,10 @@ use Rattle.parts.specs.declared.IndexRow.{IndexRow}
 use Rattle.parts.specs.Parts.{emptyHeader, headerBytes, footerBytes}
 use Rattle.parts.proofs.Parts.{length-header}
 use Rattle.layout.specs.Layout.{Block, blockBytes, blockSize, blocksBytes, rowsFrom, dictionaryBytes, indexBytes, tailBytes, closedHeader, closingBytes, finishedBytes}
+use Rattle.layout.proofs.Parts.{length-block, length-dictionary, length-tail, length-closing}
 use Rattle.claims.specs.Blocks.{Valid, full}
 use Rattle.claims.specs.Disk.{Store, headerStore, blockStore, dictionaryStore, endStore, storeBytes, storesBytes, total, blockStores, closingStores, openStores, closedStores}
 use Rattle.claims.specs.Disk.{Begun, opened, closed, headed, put, disk, finished, blockOf, dictionaryOf, inFull, blocksInFull, dictionariesInFull}
-use Rattle.claims.proofs.Lengths.{length-block, length-dictionary}
 use Rattle.claims.proofs.Full.{full-all, prefix}
 
 -- what closing hands out is its stores end to end
@@ -293,10 +293,6 @@ closed-bytes bs d =
     let D = endOf bs in
     stores-append (openStores bs) (closingStores D (rowsFrom 64 bs) d) ∙ ap (λ (x : List ℕ). storesBytes (openStores bs) ++ x) (closing-bytes D (rowsFrom 64 bs) d)
 
-length-closing : (at : ℕ) (rows : List IndexRow) (d : List ℕ) → length (closingBytes at rows d) ≡ 64 + length (tailBytes (at + 4 + length d) rows d)
-unfolding closingBytes
-length-closing at rows d = omega (arith, length-append (headerBytes (closedHeader at rows)) (tailBytes (at + 4 + length d) rows d), length-header (closedHeader at rows))
-
 total-closed : (bs : List Block) (d : List ℕ)
     → total (closedStores bs d) ≡ endOf bs + 64 + length (tailBytes (endOf bs + 4 + length d) (rowsFrom 64 bs) d)
 total-closed bs d =
@@ -305,7 +301,8 @@ total-closed bs d =
     let C = closingBytes D (rowsFrom 64 bs) d in
     let a : length (storesBytes (closedStores bs d)) ≡ length (storesBytes (openStores bs) ++ C) = ap length (closed-bytes bs d) in
     let b : length (storesBytes (openStores bs)) ≡ length (first ++ X) = ap length (open-bytes bs) in
-    let c : length C ≡ 64 + length (tailBytes (D + 4 + length d) (rowsFrom 64 bs) d) = length-closing D (rowsFrom 64 bs) d in
+    let c : length C ≡ 64 + length (tailBytes (D + 4 + length d) (rowsFrom 64 bs) d) =
+    omega (arith, length-closing D (rowsFrom 64 bs) d, length-tail (D + 4 + length d) (rowsFrom 64 bs) d) in
     omega (arith, total-stores (closedStores bs d), length-append (storesBytes (openStores bs)) C, length-append first X, length-header emptyHeader)
 
 pub finished-closed : (bs : List Block) (d : List ℕ) → finished (closedStores bs d) ≡ finishedBytes (rowsFrom 64 bs) (blocksBytes 0 bs) d

@@ -1,7 +1,7 @@
 -- The small file of document 01, cut ("Worked at the edges"), by computation. Assumes nothing.
 use mathlib.Core.Path.{_≡_, refl}
 use mathlib.Core.List.{List, [], _∷_}
-use Prim.Native.Nat.{ℕ, zero, suc, _<_}
+use Prim.Native.Nat.{ℕ, zero, suc}
 use lib.Dec.{lit<, lit≤}
 use lib.ListN.{length, replicate}
 use Rattle.wire.specs.Wire.{Bytes, le, fromLe, leAt, splice, same}

@@ -9,8 +9,8 @@ use lib.Seq.{take-nil}
 use borrow.Author.Tests.{le-leb, lt-leb}
 use Rattle.wire.proofs.Lists.{take-past}
 use Rattle.layout.specs.Layout.{Block, blockBytes, blockSize, blocksBytes}
+use Rattle.layout.proofs.Parts.{length-block}
 use Rattle.claims.specs.Blocks.{Valid, full}
-use Rattle.claims.proofs.Lengths.{length-block}
 
 -- none of them is in full where the cut came before the first
 pub full-none : (p cut : ℕ) (bs : List Block) → cut ≤ p → full p cut bs ≡ []

@@ -1,6 +1,6 @@
 -- The claims: the worked cases, what recovery and repair find on a disk that was cut, that a finished file opens, and demands 2 and 3.
 pub mod Worked
-pub mod Lengths
+pub mod Blocks
 pub mod Full
 pub mod Scans
 pub mod Disk

@@ -24,7 +24,8 @@ use Rattle.rows.specs.Rows.{stride, AllFit, tableBytes, firstTime, lastTime}
 use Rattle.rows.proofs.Rows.{rows-at, length-table, rows-put}
 use Rattle.blocks.specs.Blocks.{headAt, storedAt, blockRules, rowAt, endAlong}
 use Rattle.layout.specs.Layout.{Block, headOf, blockBytes, blockSize, blocksBytes, rowFor, rowsFrom, endFrom, dictionaryBytes, rowsBytes, indexBytes, tailBytes, closedHeader, finishedBytes}
-use Rattle.layout.proofs.Parts.{length-dictionary, length-index, length-tail}
+use Rattle.layout.proofs.Parts.{length-block, length-dictionary, length-index, length-tail}
+use Rattle.layout.proofs.Along.{length-rows-from, end-from}
 use Rattle.layout.proofs.Back.{dictionary-size, index-mark, index-count}
 use Rattle.frame.specs.declared.Frame.{Frame}
 use Rattle.frame.specs.Frame.{sizeAt, dictionaryRules, frameOf, placeRules, lengthRules, indexRules, footerRules, frameRules, indexRows}
@@ -32,7 +33,7 @@ use Rattle.frame.proofs.Rules.{dictionary-sound, places-sound, length-agrees, i
 use Rattle.reader.specs.Open.{rowRules, blocksRules, rowsIn, openRules, roomRules, callRules, openOf, openOut, rowIn, storedOf, dictionaryIn}
 use Rattle.reader.proofs.Rules.{row-sound, after-sound, room-there, row-there}
 use Rattle.claims.specs.Blocks.{Good, Valid, lastEnd}
-use Rattle.claims.proofs.Lengths.{length-block, length-rows, end-blocks}
+use Rattle.claims.proofs.Blocks.{first-block, rows-fit}
 use Rattle.claims.proofs.Scans as scans
 use Rattle.claims.proofs.Dictionary.{dictionary-part}
 use Rattle.claims.proofs.Disk.{endOf, closedFile}
@@ -51,16 +52,6 @@ number-here : (w : ℕ) (f t : List ℕ) (at : ℕ) → drop at f ≡ t → leAt
 number-here w f t at here = ap (leAt w f) (sym (add-zero at)) ∙ number-at w f t at 0 here
 
 -- ---- the rows of the index
-
--- their numbers fit, where the places of the blocks do
-pub rows-fit : (at earliest : ℕ) (bs : List Block) → Valid earliest bs → at + length bs * (36 + 256 ^ 4) < 256 ^ 8 → AllFit (rowsFrom at bs)
-unfolding Valid rowsFrom rowFor
-rows-fit at earliest [] v h = tt
-rows-fit at earliest (b ∷ bs) v h =
-    let g = v .0 in (
-      record { start = g .start-fits; end = g .end-fits; offset = omega arith; stored = g .stored-fits },
-      rows-fit (at + blockSize b) (b .end) bs (v .1) (omega (arith, g .stored-fits)),
-    )
 
 end-within : (at earliest : ℕ) (bs : List Block) → Valid earliest bs → endFrom at bs ≤ at + length bs * (36 + 256 ^ 4)
 unfolding Valid endFrom
@@ -98,10 +89,6 @@ footer-read x fits f at here =
 
 -- ---- each block, and its row
 
-first-block : (n : ℕ) (b : Block) (bs : List Block) (t : List ℕ) → blocksBytes n (b ∷ bs) ++ t ≡ blockBytes n b ++ (blocksBytes (suc n) bs ++ t)
-unfolding blocksBytes
-first-block n b bs t = append-assoc (blockBytes n b) (blocksBytes (suc n) bs) t
-
 same-row : (row block : IndexRow) (at : ℕ) → row ≡ block → firstBroken (rowRules row block at) ≡ sound
 same-row row block at e =
     row-sound row block at (ap (λ (r : IndexRow). r .start .0) e) (ap (λ (r : IndexRow). r .end .0) e) (ap (λ (r : IndexRow). r .offset) e)
@@ -135,7 +122,7 @@ blocks-pass f limit (b ∷ bs) at n earliest row t u here there h v fit few =
     let rest = blocksBytes (suc n) bs ++ t in
     let rows = rowsFrom next bs in
     let small : n < 256 ^ 4 = omega arith in
-    let within : next ≤ limit = omega (arith, end-blocks (suc n) next bs) in
+    let within : next ≤ limit = omega (arith, end-from next (suc n) bs) in
     block-passes f limit at n earliest row b rest block small (v .0) within (row-read f row (rowFor at b) rows u there (fit .0)) (length bs)
     ∙ blocks-pass f limit bs next (suc n) (b .end) (row + 28) t u (scans.drop-back f at n earliest b rest block small (v .0))
     (row-behind f row (rowFor at b) rows u there) h (v .1) (fit .1) (omega arith)
@@ -225,7 +212,7 @@ module _ (bs : List Block) (v : Valid 0 bs) (few : length bs ≤ 4096) (d : List
       record {
         header-sound = written-sound (closedHeader (endOf bs) (rowsFrom 64 bs)) (blocksBytes 0 bs ++ r);
         header = closed-header bs v few r;
-        length-is = omega (arith, length-closed bs v few r, length-tail (indexOf bs d) (rowsFrom 64 bs) d, length-rows 64 bs);
+        length-is = omega (arith, length-closed bs v few r, length-tail (indexOf bs d) (rowsFrom 64 bs) d, length-rows-from 64 bs);
         body = behind-header bs v few r;
         tail = behind-blocks bs v few r;
       }
@@ -248,7 +235,7 @@ module _ (bs : List Block) (d : List ℕ) (f : List ℕ) (l : Laid bs d f) where
   here-footer : drop (length f - 24) f ≡ footerOf bs d
   here-footer =
       let n = 16 + 28 * length (rowsFrom 64 bs) in
-      let e : length f - 24 ≡ indexOf bs d + n = omega (arith, l .length-is, length-rows 64 bs) in
+      let e : length f - 24 ≡ indexOf bs d + n = omega (arith, l .length-is, length-rows-from 64 bs) in
       ap (λ (k : ℕ). drop k f) e ∙ behind f (indexBytes (rowsFrom 64 bs)) (footerOf bs d) (indexOf bs d) n here-index (length-index (rowsFrom 64 bs))
 
   here-rows : drop (indexOf bs d + 16) f ≡ rowsBytes (rowsFrom 64 bs) ++ footerOf bs d
@@ -276,19 +263,19 @@ module _ (bs : List Block) (d : List ℕ) (f : List ℕ) (l : Laid bs d f) where
 
     frame-laid : frameOf f ≡ finishedFrame bs d
     unfolding frameOf closedHeader
-    frame-laid = rw (l .header, size-laid, length-rows 64 bs)
+    frame-laid = rw (l .header, size-laid, length-rows-from 64 bs)
 
 -- no rule is broken
 module _ (bs : List Block) (v : Valid 0 bs) (few : length bs ≤ 4096) (d : List ℕ) (some : 1 ≤ length d) (fits : length d < 256 ^ 4) (f : List ℕ) (l : Laid bs d f) where
   footer-laid : firstBroken (footerRules f (length f - 24) (indexOf bs d)) ≡ sound
   footer-laid =
-      let small : indexOf bs d < 256 ^ 8 = omega (arith, end-within 64 0 bs v, end-blocks 0 64 bs) in
+      let small : indexOf bs d < 256 ^ 8 = omega (arith, end-within 64 0 bs v, end-from 64 0 bs) in
       footer-read (record { index = indexOf bs d }) (record { index = small }) f (length f - 24) (here-footer bs d f l)
 
   index-laid : firstBroken (indexRules f (indexOf bs d) (length bs)) ≡ sound
   index-laid =
       let rows = rowsFrom 64 bs in
-      let n = length-rows 64 bs in
+      let n = length-rows-from 64 bs in
       index-sound f (indexOf bs d) (length bs) (number-here 8 f _ (indexOf bs d) (here-index bs d f l) ∙ index-mark rows (footerOf bs d))
       (number-at 8 f _ (indexOf bs d) 8 (here-index bs d f l) ∙ index-count rows (footerOf bs d) (omega arith) ∙ n)
 
@@ -314,16 +301,16 @@ module _ (bs : List Block) (v : Valid 0 bs) (few : length bs ≤ 4096) (d : List
   rows-laid =
       let e : indexRows (length (rowsFrom 64 bs)) f (indexOf bs d + 16) ≡ rowsFrom 64 bs =
       index-read (rowsFrom 64 bs) f (indexOf bs d + 16) (footerOf bs d) (here-rows bs d f l) fit-laid in
-      rw (frame-laid bs d f l fits) (rw (length-rows 64 bs) at e)
+      rw (frame-laid bs d f l fits) (rw (length-rows-from 64 bs) at e)
 
   end-laid : endAlong (length bs) f 64 ≡ endOf bs
-  end-laid = end-found f bs 64 0 0 (tailOf bs d) (l .body) v (omega arith) ∙ end-blocks 0 64 bs
+  end-laid = end-found f bs 64 0 0 (tailOf bs d) (l .body) v (omega arith) ∙ end-from 64 0 bs
 
   open-laid : firstBroken (openRules crc32 f) ≡ sound
   unfolding openRules
   open-laid =
       let i = indexOf bs d in
-      let within : endFrom 64 bs ≤ endOf bs = omega (arith, end-blocks 0 64 bs) in
+      let within : endFrom 64 bs ≤ endOf bs = omega (arith, end-from 64 0 bs) in
       rw (rows-laid, frame-laid bs d f l fits)
       (then-sound (frameRules f) _ frame-passes
       ∙ then-sound (blocksRules crc32 (length bs) f (endOf bs) 64 0 0 (i + 16)) _
@@ -402,5 +389,5 @@ module _ (bs : List Block) (v : Valid 0 bs) (few : length bs ≤ 4096) (d : List
     row-finished table room =
         let e = ap length split in
         let i : length before < length bs = omega (arith, length-append before (b ∷ after)) in
-        rw (opens table room .leaves) (row-tabled (rowsFrom 64 bs) table (length bs) (length before) (length-rows 64 bs) i room (rows-fit 64 0 bs v (omega arith)))
+        rw (opens table room .leaves) (row-tabled (rowsFrom 64 bs) table (length bs) (length before) (length-rows-from 64 bs) i room (rows-fit 64 0 bs v (omega arith)))
         ∙ ap (λ (x : List Block). given (getD (rowsFrom 64 x) (length before) emptyRow)) split ∙ ap given (row-in 64 before b after)

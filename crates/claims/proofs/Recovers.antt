@@ -22,13 +22,14 @@ use Rattle.parts.proofs.HeaderRules.{written-sound}
 use Rattle.rows.specs.Rows.{firstTime, lastFrom, tableBytes}
 use Rattle.blocks.specs.Blocks.{scanOf}
 use Rattle.layout.specs.Layout.{Block, blocksBytes, blockSize, rowFor, rowsFrom, endFrom, dictionaryBytes, tailBytes, closedHeader}
+use Rattle.layout.proofs.Parts.{length-block, length-dictionary}
+use Rattle.layout.proofs.Along.{length-rows-from, end-from}
 use Rattle.recovery.specs.Recovery.{limitOf, limitIn, offsetRules, recoverRules, Report, reported, reportOf, roomRules, callRules, recoverOf, recoverOut}
 use Rattle.frame.specs.Frame.{sizeAt, wholeDictionary}
 use Rattle.recovery.proofs.Rules.{limit-length, limit-offset, offset-sound}
 use Rattle.frame.proofs.Rules.{whole-none}
 use Rattle.claims.specs.Blocks.{Valid, full}
 use Rattle.claims.specs.Disk.{Store, Begun, disk, blocksInFull, dictionariesInFull, some}
-use Rattle.claims.proofs.Lengths.{length-block, length-rows, end-blocks, length-dictionary}
 use Rattle.claims.proofs.Scans.{scan-clean, scan-cut}
 use Rattle.claims.proofs.Dictionary.{dictionary-part, dictionary-whole, dictionary-short-of}
 use Rattle.claims.proofs.Disk.{openFile, endOf, closedFile, Before, Behind, View, before, behind, view}
@@ -95,7 +96,7 @@ unfolding closedHeader
 closed-fits bs v few =
     record {
       dictionary = omega (arith, blocks-fit 0 0 bs v);
-      blocks = omega (arith, length-rows 64 bs);
+      blocks = omega (arith, length-rows-from 64 bs);
       first = first-fits 64 bs v;
       last = last-fits 64 0 0 bs v (lit< tt);
     }
@@ -175,7 +176,7 @@ module _ (bs : List Block) (v : Valid 0 bs) (few : length bs ≤ 4096) where
       record {
         accepts = closed-accepted bs v few r;
         rows = ap (λ (r : Report). r .rows) e;
-        end = ap (λ (r : Report). r .end) e ∙ sym (end-blocks 0 64 bs);
+        end = ap (λ (r : Report). r .end) e ∙ sym (end-from 64 0 bs);
         whole = ap (λ (r : Report). r .whole) e ∙ w;
       }
 

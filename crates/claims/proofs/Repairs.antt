@@ -18,12 +18,12 @@ use Rattle.parts.specs.declared.IndexRow.{IndexRow}
 use Rattle.parts.specs.Parts.{emptyHeader, headerBytes, headerOf, footerBytes}
 use Rattle.parts.proofs.Parts.{length-header}
 use Rattle.layout.specs.Layout.{Block, blocksBytes, rowsFrom, indexBytes, tailBytes, finishedBytes}
+use Rattle.layout.proofs.Along.{end-from}
 use Rattle.recovery.specs.Recovery.{recoverRules, Report, reportOf}
 use Rattle.frame.specs.Frame.{sizeAt, wholeDictionary}
 use Rattle.repair.specs.Repair.{closedRules, lentRules, dictionaryFor, repaired, repairRules, repairOf, repairOut}
 use Rattle.claims.specs.Blocks.{Valid, full}
 use Rattle.claims.specs.Disk.{Store, closedStores, Begun, disk, finished, blocksInFull, dictionariesInFull, some}
-use Rattle.claims.proofs.Lengths.{end-blocks}
 use Rattle.claims.proofs.Full.{prefix}
 use Rattle.claims.proofs.Disk.{openFile, endOf, closedFile, Before, Behind, View, before, behind, view, finished-closed}
 use Rattle.claims.proofs.Recovers.{open-header, open-whole, closed-accepted, closed-offset, closed-count, behind-header, closed-report, closed-whole, closed-part, reports-open}
@@ -109,7 +109,7 @@ gives-open bs v few cut h lent p q =
     (closed-none (headerOf f .dictionary) (headerOf f .blocks) (reportOf f) (ap (λ (h : Header). h .dictionary) (open-header t)))
     (lent-fits (reportOf f) (length lent) (r .whole) p q)
     (r .rows)
-    (body-part f (blocksBytes 0 fs) (i .rest) (reportOf f .end) here (r .end ∙ end-blocks 0 64 fs))
+    (body-part f (blocksBytes 0 fs) (i .rest) (reportOf f .end) here (r .end ∙ end-from 64 0 fs))
     (rw w)
 
 -- the header is the last one: where the dictionary is whole it is used, and else the lent one

@@ -10,10 +10,9 @@ use Rattle.verdict.specs.Rules.{Verdict, sound, broken, firstBroken}
 use Rattle.verdict.proofs.Laws.{then-broken}
 use Rattle.wire.specs.Wire.{Bytes, splice}
 use Rattle.wire.proofs.Splices.{length-splice, splice-nil}
-use Rattle.parts.specs.Parts.{emptyHeader, headerBytes}
-use Rattle.rows.specs.Rows.{stride, rowsOf, tableBytes, AllFit}
+use Rattle.rows.specs.Rows.{stride, rowsOf, tableBytes}
 use Rattle.rows.proofs.Rows.{rows-next, rows-put}
-use Rattle.layout.specs.Layout.{Block, blockBytes, blockSize, rowFor, rowsFrom, endFrom}
+use Rattle.layout.specs.Layout.{Block, blockBytes, rowFor, rowsFrom, endFrom}
 use Rattle.layout.proofs.Along.{rows-append, length-rows-from, end-from}
 use Rattle.writer.specs.declared.state.Turn.the-variants as turn
 use Rattle.writer.specs.declared.state.Writer.{Writer}
@@ -23,25 +22,14 @@ use Rattle.writer.specs.Block.{Adding, blockFor, takeRules, blockRules, withBlo
 use Rattle.writer.specs.Close.{closeRules, closed}
 use Rattle.writer.proofs.Turns.{not-begun, new-turn, begun-turn, closed-turn}
 use Rattle.writer.proofs.Beginning.{begin-turn}
-use Rattle.claims.specs.Blocks.{Valid}
-use Rattle.claims.specs.Disk.{Store, headerStore, blockStore, blockStores, closingStores, openStores, closedStores, Begun}
+use Rattle.claims.specs.Disk.{Store, blockStore, blockStores, closingStores, openStores, closedStores, Begun}
 use Rattle.claims.specs.Disk as stored
 use Rattle.claims.specs.Calls.{Call, begin, name, entry, block, close, Typed, AllTyped, Writing, next, stores, accepted, last, run, addings}
+use Rattle.claims.proofs.Blocks.{rows-fit}
 use Rattle.claims.proofs.Calls.{Idle, begin-refused, name-idle, entry-idle, block-refused, close-refused, begin-leaves, begin-keeps, begin-stores}
 use Rattle.claims.proofs.Calls.{Takes, block-takes, block-room, block-leaves, block-row, block-accepted, block-stores, close-leaves, close-stored, close-stores}
 use Rattle.claims.proofs.Disk.{endOf}
 use Rattle.claims.proofs.Taken.{after, Taken, taken-valid, taken-few, after-more, taken-more, after-blocks, after-length}
-
--- ---- the rows of blocks fit their fields
-
-rows-fit : (at earliest : ℕ) (bs : List Block) → Valid earliest bs → at + length bs * (36 + 256 ^ 4) < 256 ^ 8 → AllFit (rowsFrom at bs)
-unfolding Valid rowsFrom rowFor
-rows-fit at earliest [] v h = tt
-rows-fit at earliest (b ∷ bs) v h =
-    let g = v .0 in (
-      record { start = g .start-fits; end = g .end-fits; offset = omega arith; stored = g .stored-fits },
-      rows-fit (at + blockSize b) (b .end) bs (v .1) (omega (arith, g .stored-fits)),
-    )
 
 -- ---- between begin and closing: the state behind the addings so far, of which the table has the rows
 

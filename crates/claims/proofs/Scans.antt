@@ -18,8 +18,10 @@ use Rattle.parts.proofs.Parts.{length-block-header, block-header-back}
 use Rattle.blocks.specs.Blocks.{headAt, storedAt, endAt, blockRules, rowAt, Scan, stopped, before, scanFrom, scanOf}
 use Rattle.blocks.proofs.Rules.{head-stored, head-sound, sum-agrees, block-no-room, block-head, block-sum}
 use Rattle.layout.specs.Layout.{Block, headOf, blockBytes, blockSize, blocksBytes, rowFor, rowsFrom, endFrom}
+use Rattle.layout.proofs.Parts.{length-block}
+use Rattle.layout.proofs.Along.{end-from}
 use Rattle.claims.specs.Blocks.{Good, Valid, lastEnd, full}
-use Rattle.claims.proofs.Lengths.{length-block, length-blocks, end-blocks}
+use Rattle.claims.proofs.Blocks.{first-block, length-blocks}
 use Rattle.claims.proofs.Full.{full-first, full-part}
 
 -- ---- a block's header read back
@@ -95,10 +97,6 @@ module _ (f : List ℕ) (at n earliest : ℕ) (b : Block) (t : List ℕ) (here :
 abbrev pub following : List IndexRow → Scan → Scan
 following rows s = record { rows = rows ++ s .rows; end = s .end; stop = s .stop }
 
-first-block : (n : ℕ) (b : Block) (bs : List Block) (t : List ℕ) → blocksBytes n (b ∷ bs) ++ t ≡ blockBytes n b ++ (blocksBytes (suc n) bs ++ t)
-unfolding blocksBytes
-first-block n b bs t = append-assoc (blockBytes n b) (blocksBytes (suc n) bs) t
-
 pub scan-blocks : (f : List ℕ) (limit k : ℕ) (bs : List Block) (at n earliest : ℕ) (t : List ℕ) → drop at f ≡ blocksBytes n bs ++ t
     → at + length (blocksBytes n bs) ≤ limit → Valid earliest bs → n + length bs ≤ 256 ^ 4
     → scanFrom crc32 (length bs + k) f limit at n earliest ≡ following (rowsFrom at bs) (scanFrom crc32 k f limit (endFrom at bs) (n + length bs) (lastEnd earliest bs))
@@ -129,7 +127,7 @@ scan-all : (k : ℕ) (f : List ℕ) (limit at n earliest : ℕ) (bs : List Block
     → scanFrom crc32 k f limit at n earliest ≡ record { rows = rowsFrom at bs; end = limit; stop = sound }
 scan-all k f limit at n earliest bs t here e v few h =
     let q : k ≡ length bs + (k - length bs) = omega arith in
-    let p : endFrom at bs ≡ limit = end-blocks n at bs ∙ e in
+    let p : endFrom at bs ≡ limit = end-from at n bs ∙ e in
     ap (λ (j : ℕ). scanFrom crc32 j f limit at n earliest) q
     ∙ scan-blocks f limit (k - length bs) bs at n earliest t here (omega arith) v few
     ∙ rw (scan-none (k - length bs) f limit (endFrom at bs) (n + length bs) (lastEnd earliest bs) (omega arith), p, append-nil (rowsFrom at bs))

@@ -10,7 +10,7 @@ use Rattle.parts.specs.declared.IndexRow.{IndexRow}
 use Rattle.parts.specs.declared.time.Epoch.{Epoch}
 use Rattle.parts.specs.Parts.{emptyHeader, headerBytes}
 use Rattle.parts.specs.Time.{belongsTo}
-use Rattle.layout.specs.Layout.{Block, blockBytes, rowFor}
+use Rattle.layout.specs.Layout.{Block, blockBytes}
 use Rattle.entries.specs.declared.values.Value.the-variants.{Whole}
 use Rattle.entries.specs.declared.steps.DeltaStep.the-variants as delta
 use Rattle.entries.specs.declared.steps.FieldStep.the-variants as field
