@@ -25,8 +25,8 @@ use Rattle.writer.specs.Close.{closeRules, closeOf}
 use Rattle.writer.proofs.Closes.{close-good}
 use Rattle.writer.proofs.Turns.{new-turn, closed-turn}
 use Rattle.claims.specs.Disk.{Store, openStores, closedStores, finished}
-use Rattle.claims.specs.Calls.{Call, close, Writing, newWriting, last, run, addings}
-use Rattle.claims.specs.Demand2.{fileOf, Opening, Reading, Finished, Demand2, EntryTrips}
+use Rattle.claims.specs.Calls.{Call, close, Writing, newWriting, last, run, addings, fileOf}
+use Rattle.claims.specs.Demand2.{Opening, Reading, Finished, Demand2, EntryTrips}
 use Rattle.claims.proofs.Disk.{finished-closed}
 use Rattle.claims.proofs.Opens.{finishedFile, finishedFrame, opens, frame-finished, dictionary-finished, head-finished, stored-finished, row-finished}
 use Rattle.claims.proofs.Readings.{more-names, block-finished}

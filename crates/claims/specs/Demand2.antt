@@ -4,7 +4,7 @@ use mathlib.Core.Path.{_≡_}
 use mathlib.Core.List.{List, [], _∷_, _++_, map}
 use Prim.Native.Nat.{ℕ, _+_, _*_, _≤_}
 use lib.ListN.{length}
-use Rattle.verdict.specs.Rules.{sound, given, verdictIn}
+use Rattle.verdict.specs.Rules.{sound, given}
 use Rattle.wire.specs.Wire.{Bytes, leAt, splice}
 use Rattle.parts.specs.declared.IndexRow.{IndexRow}
 use Rattle.rows.specs.Rows.{stride, tableBytes, firstTime}
@@ -20,21 +20,7 @@ use Rattle.names.specs.Dictionary.{dictionaryOf}
 use Rattle.frame.specs.declared.Frame.{Frame}
 use Rattle.reader.specs.Open.{openOf, openOut, rowIn, storedOf, dictionaryIn}
 use Rattle.writer.specs.Block.{Adding, readBy, blockFor}
-use Rattle.writer.specs.Close.{closeOf}
-use Rattle.claims.specs.Disk.{finished}
-use Rattle.claims.specs.Calls.{Call, close, AllTyped, Writing, newWriting, last, run, addings}
-
--- ---- a finished file
-
--- closing is accepted behind these calls: it "takes the plain dictionary, checked by 10, and its stored bytes", and is lent an output
-abbrev pub Closing : Writing → List Call → (plain stored out : List ℕ) → Type 0
-Closing h cs plain stored out =
-    let k = last h cs in
-    verdictIn (closeOf (k .writer) (k .table) plain stored (length out)) ≡ sound
-
--- the file that the calls and the closing store
-abbrev pub fileOf : Writing → List Call → (plain stored out : List ℕ) → List ℕ
-fileOf h cs plain stored out = finished (run h (cs ++ (close plain stored out ∷ [])))
+use Rattle.claims.specs.Calls.{Call, AllTyped, newWriting, addings, Closing, fileOf}
 
 -- ---- what the reader finds
 

@@ -1,19 +1,18 @@
 -- Demand 3 (document 01, "Recovery and repair"): "one claim over every list of calls, not one for each call", and over every cut. Assumes nothing.
 use mathlib.Core.Path.{_≡_}
 use mathlib.Core.Bool.{Bool, true, false}
-use mathlib.Core.List.{List, [], _∷_, _++_, map}
+use mathlib.Core.List.{List, [], map}
 use Prim.Native.Nat.{ℕ, _*_, _^_, _≤_, _<_}
 use lib.ListN.{length, take}
-use Rattle.verdict.specs.Rules.{sound, given, verdictIn}
+use Rattle.verdict.specs.Rules.{given}
 use Rattle.wire.specs.Wire.{splice}
 use Rattle.rows.specs.Rows.{stride, tableBytes}
 use Rattle.layout.specs.Layout.{Block, blocksBytes, rowsFrom, endFrom, finishedBytes}
 use Rattle.writer.specs.Block.{Adding, blockFor}
-use Rattle.writer.specs.Close.{closeOf}
 use Rattle.recovery.specs.Recovery.{Report, recoverOf, recoverOut}
 use Rattle.repair.specs.Repair.{repairOf, repairOut}
 use Rattle.claims.specs.Disk.{disk, finished, dictionariesInFull, some}
-use Rattle.claims.specs.Calls.{Call, close, AllTyped, Writing, newWriting, last, run, addingsInFull, again}
+use Rattle.claims.specs.Calls.{Call, AllTyped, Writing, newWriting, run, addingsInFull, again, Closing, fileOf}
 
 -- what recovery says of a file, with a lent table: "the rows" of these blocks, "start taken, end (the last entry's time), place (64, or the one before
 -- plus 36 plus the size before), stored length", "the end of the last whole block", and "whether a whole dictionary stands at D"
@@ -35,13 +34,11 @@ pub record Repair (f lent out file : List ℕ) (kept : ℕ) : Type 0 where
 
 -- "begin, the addings of those blocks and a closing with that stored dictionary store": the file that these stores make
 abbrev pub finishedAgain : Writing → List Adding → (plain stored out : List ℕ) → List ℕ
-finishedAgain h xs plain stored out = finished (run h (again xs out ++ (close plain stored out ∷ [])))
+finishedAgain h xs plain stored out = fileOf h (again xs out) plain stored out
 
 -- closing accepts this plain dictionary there
 abbrev pub Closes : Writing → List Adding → (plain stored out : List ℕ) → Type 0
-Closes h xs plain stored out =
-    let k = last h (again xs out) in
-    verdictIn (closeOf (k .writer) (k .table) plain stored (length out)) ≡ sound
+Closes h xs plain stored out = Closing h (again xs out) plain stored out
 
 -- the calls are lent room enough: a row for each block, and an output as long as the file
 pub record Room (xs : List Adding) (stored table out : List ℕ) : Type 0 where
