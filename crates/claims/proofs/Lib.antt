@@ -18,3 +18,5 @@ pub mod Plain
 pub mod Demand3
 pub mod Demand2
 pub mod Examples
+pub mod Listed
+pub mod Names

@@ -5,3 +5,4 @@ pub mod Disk
 pub mod Calls
 pub mod Demand2
 pub mod Demand3
+pub mod Built
