@@ -20,3 +20,4 @@ pub mod Demand2
 pub mod Examples
 pub mod Listed
 pub mod Names
+pub mod Entries

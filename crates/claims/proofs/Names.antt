@@ -159,7 +159,7 @@ laid d b x n m e f h =
     ap (take (n + length x)) (outer ∙ seam)
     ∙ take-at (c ++ (b ++ x)) r (n + length x) (omega (arith, length-append c (b ++ x), length-append b x, length-le 4 m))
 
-begun-not-new : (t : Turn) → isBegun t ≡ true → isNew t ≡ true → ⊥
+pub begun-not-new : (t : Turn) → isBegun t ≡ true → isNew t ≡ true → ⊥
 unfolding isBegun isNew
 begun-not-new turn.New b n = let z : _≡_ {A = ℕ} 0 1 = cc in omega arith
 begun-not-new turn.Begun b n = let z : _≡_ {A = ℕ} 0 1 = cc in omega arith
@@ -263,11 +263,11 @@ begun-holds w d ns e g =
     let n = g .new e in
     rw n (record { count = refl; size = refl; whole = λ s. absurd (omega (arith, s)); right = right-none; new = λ t. refl })
 
-begin-new : (w : Writer) (room : ℕ) → firstBroken (beginRules w room) ≡ sound → isNew (w .turn) ≡ true
+pub begin-new : (w : Writer) (room : ℕ) → firstBroken (beginRules w room) ≡ sound → isNew (w .turn) ≡ true
 unfolding beginRules holds
 begin-new w room e = sound-held (beginRules w room) e .0
 
-closed-not-new : (w : Writer) → isNew (closed w .turn) ≡ true → isNew (w .turn) ≡ true
+pub closed-not-new : (w : Writer) → isNew (closed w .turn) ≡ true → isNew (w .turn) ≡ true
 unfolding closed isNew
 closed-not-new w e = let z : _≡_ {A = ℕ} 0 1 = cc in absurd (omega arith)
 

@@ -1,0 +1,307 @@
+-- What every list of calls leaves of the entries of the open block: they are read from its plain bytes. Assumes nothing.
+use mathlib.Core.Path.{_≡_, refl, sym, ap, _∙_}
+use mathlib.Core.Bool.{true}
+use mathlib.Core.List.{List, [], _∷_, _++_, append-assoc}
+use Prim.Native.Nat.{ℕ, zero, suc, _+_, _-_, _^_, _≤_, _<_}
+use native.Mathlib.Omega.{arith}
+use native.Mathlib.Decide.{decLe}
+use lib.ListN.{length, take, drop, length-append, length-take}
+use lib.Seq.{take-at, length-take-le}
+use borrow.Author.Tests.{leb-true, le-leb}
+use Rattle.verdict.specs.Rules.{holds, Verdict, sound, broken, firstBroken, given, Held}
+use Rattle.verdict.proofs.Laws.{sound-held, held-sound, held-parts}
+use Rattle.wire.specs.Wire.{le, splice}
+use Rattle.wire.proofs.Splices.{splice-parts}
+use Rattle.parts.specs.declared.time.Epoch.{Epoch}
+use Rattle.varint.specs.Varint.{encode}
+use Rattle.entries.specs.declared.steps.Field.{Field}
+use Rattle.entries.specs.Model.{Entry, bytesOf}
+use Rattle.entries.specs.Answers.{valIn}
+use Rattle.entries.specs.Packing.{packField, packFields}
+use Rattle.entries.specs.Reading.{entriesOf, lastTime}
+use Rattle.entries.proofs.Accepted.{some-read, last-appended}
+use Rattle.entries.proofs.RoundTrip.{read-known}
+use Rattle.packing.specs.Entry.{sizeOf, fieldIn, fieldsIn, fieldSize, fieldsSize, entrySize, entryBytes}
+use Rattle.packing.specs.Inner.{AllRanged, Within, AllWithin}
+use Rattle.packing.specs.Rules.{largest, textRules, fieldRules, roomRules, sizedRules, packRules}
+use Rattle.packing.proofs.Stores.{size-is, length-all}
+use Rattle.packing.proofs.Answers.{all-within}
+use Rattle.packing.proofs.RoundTrip.{reads-behind, first-reads}
+use Rattle.lookup.specs.Lookup.{Found, numbered, missing}
+use Rattle.writer.specs.declared.state.Writer.{Writer}
+use Rattle.writer.specs.State.{begunWriter, isNew, begunRules}
+use Rattle.writer.specs.Begin.{beginRules, beginOf}
+use Rattle.writer.specs.Name.{heldAs, nameRules, withName, namingOf, nameOut}
+use Rattle.writer.specs.Name as writer
+use Rattle.writer.specs.Entry.{startFor, earliestFor, deltaFor, timeRules, entryRules, withEntry, entryOf, entryOut}
+use Rattle.writer.specs.Block.{Adding, adding, readBy, blockFor, blockRules, withBlock, blockOf}
+use Rattle.writer.specs.Close.{closeRules, closed, closeOf}
+use Rattle.writer.proofs.Turns.{turn-begun}
+use Rattle.writer.proofs.Entries.{start-open, earliest-open, start-new, time-from}
+use Rattle.writer.proofs.Blocks.{block-entries}
+use Rattle.claims.specs.Calls.{Call, begin, name, entry, block, close, Writing, newWriting, next, last}
+use Rattle.claims.specs.Built.{Ranges, AllRanges, openAfter, openBehind, entriesOpen, HoldsEntries, EntriesBuilt}
+use Rattle.claims.proofs.Calls.{parts-sound}
+use Rattle.claims.proofs.Names.{begun-not-new, begin-new, closed-not-new}
+
+-- ---- an entry that packing accepts: the room that it takes
+
+field-length : (t : List ℕ) (f : Field) → Within (length t) (f .value) → length (packField (fieldIn t f)) ≡ fieldSize f
+unfolding packField fieldIn fieldSize le
+field-length t f h =
+    let s = size-is t (f .value) h in
+    rw s (omega (arith, length-append (encode (sizeOf (f .value))) (bytesOf (valIn t (f .value)))))
+
+fields-length : (t : List ℕ) (fs : List Field) → AllWithin (length t) fs → length (packFields (fieldsIn t fs)) ≡ fieldsSize fs
+unfolding packFields fieldsIn fieldsSize AllWithin
+fields-length t [] h = refl
+fields-length t (f ∷ fs) h =
+    omega (arith, length-append (packField (fieldIn t f)) (packFields (fieldsIn t fs)), field-length t f (h .0 .0), fields-length t fs (h .1))
+
+entry-length : (d : ℕ) (t : List ℕ) (fs : List Field) → AllWithin (length t) fs → length (entryBytes d (fieldsIn t fs)) ≡ entrySize d fs
+unfolding entryBytes entrySize
+entry-length d t fs h =
+    omega (arith, length-append (encode d) (length (fieldsIn t fs) ∷ packFields (fieldsIn t fs)), fields-length t fs h)
+
+size-some : (d : ℕ) (fs : List Field) → 1 ≤ entrySize d fs
+unfolding entrySize
+size-some d fs = omega arith
+
+module _ (room at d names : ℕ) (t : List ℕ) (count : ℕ) (fs : List Field) (e : firstBroken (packRules room at d names t count fs) ≡ sound) where
+  texts-held : Held (textRules fs) × Held (sizedRules room at d names t fs)
+  unfolding packRules
+  texts-held = held-parts (textRules fs) (sizedRules room at d names t fs) (sound-held (packRules room at d names t count fs) e .1 .1)
+
+  fields-held : Held (fieldRules names t (at + length (encode d) + 1) fs) × Held (roomRules room (at + entrySize d fs))
+  unfolding sizedRules
+  fields-held = held-parts (fieldRules names t (at + length (encode d) + 1) fs) (roomRules room (at + entrySize d fs)) (texts-held .1 .1)
+
+  pack-length : length (entryBytes d (fieldsIn t fs)) ≡ entrySize d fs
+  pack-length =
+      let f = fieldRules names t (at + length (encode d) + 1) fs in
+      entry-length d t fs (all-within names t (at + length (encode d) + 1) fs (held-sound f (fields-held .0)) (texts-held .0))
+
+  pack-room : at + entrySize d fs ≤ room
+  unfolding roomRules holds
+  pack-room = leb-true (at + entrySize d fs) room (fields-held .1 .0)
+
+  -- the number of fields that count is at least the number of those that are there
+  pack-counted : length fs ≤ count → firstBroken (packRules room at d names t (length fs) fs) ≡ sound
+  unfolding packRules holds
+  pack-counted l =
+      let h = sound-held (packRules room at d names t count fs) e in
+      let m : count ≤ 255 = leb-true count 255 (h .1 .0) in
+      held-sound (packRules room at d names t (length fs) fs) (h .0, (le-leb (length fs) 255 (omega arith), h .1 .1))
+
+-- bytes laid behind a front that ends at n
+laid-behind : (p x : List ℕ) (n : ℕ) → n + length x ≤ length p → take (n + length x) (splice p n x) ≡ take n p ++ x
+laid-behind p x n h =
+    let l : length (take n p) ≡ n = length-take-le n p (omega arith) in
+    ap (take (n + length x)) (splice-parts p x n h ∙ sym (append-assoc (take n p) x (drop (n + length x) p)))
+    ∙ take-at (take n p ++ x) (drop (n + length x) p) (n + length x) (omega (arith, length-append (take n p) x))
+
+-- ---- the state and the lent plain bytes of entries accepted
+
+pub record Opened (w : Writer) (p : List ℕ) (es : List Entry) : Type 0 where
+  pub shut : w .pending .plain ≡ 0 → es ≡ []
+  pub reads : 1 ≤ w .pending .plain → entriesOf (take (w .pending .plain) p) (w .pending .start .0) (w .names) ≡ given es
+  pub start : (e : Entry) (rest : List Entry) → es ≡ e ∷ rest → e .time ≡ w .pending .start .0
+  pub last : 1 ≤ w .pending .plain → lastTime (w .pending .start .0) es ≡ w .pending .last .0
+  pub new : isNew (w .turn) ≡ true → w .pending .plain ≡ 0
+
+no-first : (es : List Entry) → es ≡ [] → (e : Entry) (rest : List Entry) → es ≡ e ∷ rest → ⊥
+no-first es n e rest q = let z : _≡_ {A = ℕ} 0 1 = cc in omega arith
+
+-- no block is open
+opened-none : (w : Writer) (p : List ℕ) (es : List Entry) → w .pending .plain ≡ 0 → es ≡ [] → Opened w p es
+opened-none w p es z n =
+    record {
+      shut = λ e. n;
+      reads = λ h. absurd (omega arith);
+      start = λ e rest q. absurd (no-first es n e rest q);
+      last = λ h. absurd (omega arith);
+      new = λ e. z;
+    }
+
+-- the first of entries with one more behind them
+first-stays : (es : List Entry) (x e : Entry) (rest : List Entry) (t : ℕ) → 1 ≤ length es → ((e : Entry) (rest : List Entry) → es ≡ e ∷ rest → e .time ≡ t)
+    → es ++ (x ∷ []) ≡ e ∷ rest → e .time ≡ t
+first-stays [] x e rest t h f q = absurd (omega (arith, h))
+first-stays (y ∷ es) x e rest t h f q = let z : y ≡ e = cc in rw (← z) (f y es refl)
+
+-- ---- an entry that is accepted
+
+abbrev entryIn : Epoch → List ℕ → List Field → Entry
+entryIn t text fs = record { time = t .0; fields = fieldsIn text fs }
+
+module _ (w : Writer) (p : List ℕ) (es : List Entry) (g : Opened w p es) (t : Epoch) (text : List ℕ) (count : ℕ) (fs : List Field)
+    (fits : t .0 < 2 ^ 64) (ranged : AllRanged fs) (counted : length fs ≤ count) (b : firstBroken (begunRules w) ≡ sound)
+    (u : firstBroken (timeRules w t) ≡ sound)
+    (e : firstBroken (packRules (length p) (w .pending .plain) (deltaFor w t) (w .names) text count fs) ≡ sound) where
+  abbrev more : List ℕ
+  more = entryBytes (deltaFor w t) (fieldsIn text fs)
+
+  plain-after : take (w .pending .plain + entrySize (deltaFor w t) fs) (splice p (w .pending .plain) more) ≡ take (w .pending .plain) p ++ more
+  plain-after =
+      let l = pack-length (length p) (w .pending .plain) (deltaFor w t) (w .names) text count fs e in
+      let r = pack-room (length p) (w .pending .plain) (deltaFor w t) (w .names) text count fs e in
+      ap (λ (n : ℕ). take (w .pending .plain + n) (splice p (w .pending .plain) more)) (sym l) ∙ laid-behind p more (w .pending .plain) (omega arith)
+
+  packs : firstBroken (packRules (length p) (w .pending .plain) (t .0 - startFor w t .0) (w .names) text (length fs) fs) ≡ sound
+  unfolding deltaFor
+  packs = pack-counted (length p) (w .pending .plain) (deltaFor w t) (w .names) text count fs e counted
+
+  -- the first of a block
+  first-read : w .pending .plain ≤ 0 → entriesOf (take (w .pending .plain) p ++ more) (startFor w t .0) (w .names) ≡ given (es ++ (entryIn t text fs ∷ []))
+  unfolding deltaFor
+  first-read h =
+      let z : w .pending .plain ≡ 0 = omega arith in
+      let s : t .0 ≡ startFor w t .0 = ap (λ (x : Epoch). x .0) (start-new w h t) in
+      rw (g .shut z)
+      (ap (λ (n : ℕ). entriesOf (take n p ++ more) (startFor w t .0) (w .names)) z
+      ∙ first-reads (w .names) (startFor w t .0) (t .0) text (length p) (w .pending .plain) fs fits ranged packs s)
+
+  -- one behind others
+  next-read : 1 ≤ w .pending .plain → entriesOf (take (w .pending .plain) p ++ more) (startFor w t .0) (w .names) ≡ given (es ++ (entryIn t text fs ∷ []))
+  unfolding deltaFor timeRules holds
+  next-read h =
+      let s : w .pending .start .0 ≡ startFor w t .0 = ap (λ (x : Epoch). x .0) (start-open w h t) in
+      let a : earliestFor w .0 ≤ t .0 = leb-true _ _ (sound-held (timeRules w t) u .0) in
+      let l : lastTime (startFor w t .0) es ≡ earliestFor w .0 =
+      ap (λ (x : ℕ). lastTime x es) (sym s) ∙ g .last h ∙ ap (λ (x : Epoch). x .0) (earliest-open w h) in
+      reads-behind (w .names) (startFor w t .0) (t .0) text (length p) (w .pending .plain) fs fits ranged packs (take (w .pending .plain) p) es
+      (ap (λ (x : ℕ). entriesOf (take (w .pending .plain) p) x (w .names)) (sym s) ∙ g .reads h) (time-from w t u) (omega arith)
+
+  both-read : entriesOf (take (w .pending .plain) p ++ more) (startFor w t .0) (w .names) ≡ given (es ++ (entryIn t text fs ∷ []))
+  both-read = elim (decLe 1 (w .pending .plain)) [ yes h ↦ next-read h | no h ↦ first-read (omega arith) ]
+
+  first-time : (x : Entry) (rest : List Entry) → es ++ (entryIn t text fs ∷ []) ≡ x ∷ rest → x .time ≡ startFor w t .0
+  first-time x rest q = go (decLe 1 (w .pending .plain))
+    where
+      alone : es ≡ [] → t .0 ≡ startFor w t .0 → x .time ≡ startFor w t .0
+      alone n s =
+          let r : entryIn t text fs ∷ [] ≡ x ∷ rest = ap (λ (l : List Entry). l ++ (entryIn t text fs ∷ [])) (sym n) ∙ q in
+          let y : x .time ≡ t .0 = cc in
+          y ∙ s
+
+      go : Dec (1 ≤ w .pending .plain) → x .time ≡ startFor w t .0
+      go (yes h) =
+          first-stays es (entryIn t text fs) x rest (w .pending .start .0) (some-read (take (w .pending .plain) p) (w .pending .start .0) (w .names) es (g .reads h)) (g .start) q
+          ∙ ap (λ (y : Epoch). y .0) (start-open w h t)
+      go (no h) = alone (g .shut (omega arith)) (ap (λ (y : Epoch). y .0) (start-new w (omega arith) t))
+
+  opened-more : Opened (withEntry w t fs) (splice p (w .pending .plain) more) (es ++ (entryIn t text fs ∷ []))
+  unfolding withEntry
+  opened-more =
+      let s = size-some (deltaFor w t) fs in
+      record {
+        shut = λ z. absurd (omega arith);
+        reads = λ h. rw plain-after both-read;
+        start = first-time;
+        last = λ h. last-appended (startFor w t .0) es (entryIn t text fs);
+        new = λ n. absurd (begun-not-new (w .turn) (turn-begun w b) n);
+      }
+
+-- ---- one call
+
+-- a state with the same open block, as many names or more, and no newer turn
+kept : (w v : Writer) (p : List ℕ) (es : List Entry) → v .pending ≡ w .pending → w .names ≤ v .names → (isNew (v .turn) ≡ true → isNew (w .turn) ≡ true)
+    → Opened w p es → Opened v p es
+kept w v p es a l t g =
+    rw a
+    (record {
+      shut = g .shut;
+      reads = λ h. read-known (w .names) (w .pending .start .0) es (take (w .pending .plain) p) (g .reads h) (v .names) l;
+      start = g .start;
+      last = g .last;
+      new = λ e. g .new (t e);
+    })
+
+name-kept : (w : Writer) (n p : List ℕ) (es : List Entry) (f : Found) → Opened w p es → Opened (namingOf f w n .next) p es
+unfolding withName
+name-kept w n p es (numbered i) g = g
+name-kept w n p es missing g = kept w (withName w (length n)) p es refl (omega arith) (λ x. x) g
+
+entry-parts : (w : Writer) (t : Epoch) (text : List ℕ) (count : ℕ) (fs : List Field) (room : ℕ) → firstBroken (entryRules w t text count fs room) ≡ sound
+    → (firstBroken (begunRules w) ≡ sound) × (firstBroken (timeRules w t) ≡ sound)
+    × (firstBroken (packRules room (w .pending .plain) (deltaFor w t) (w .names) text count fs) ≡ sound)
+unfolding entryRules
+entry-parts w t text count fs room e =
+    let p = parts-sound (begunRules w) _ e in
+    let q = parts-sound (timeRules w t) _ (p .1) in
+    (p .0, q .0, q .1)
+
+module _ (h : Writing) (es : List Entry) (g : Opened (h .writer) (h .payload) es) where
+  abbrev After : Call → Type 0
+  After c = Opened (next h c .writer) (next h c .payload) (openAfter es h c)
+
+  begin-after : (out : List ℕ) (v : Verdict) → firstBroken (beginRules (h .writer) (length out)) ≡ v → After (begin out)
+  unfolding next openAfter beginOf
+  begin-after out sound e = rw e (opened-none begunWriter (h .payload) es refl (g .shut (g .new (begin-new (h .writer) (length out) e))))
+  begin-after out (broken n p) e = rw e g
+
+  name-after : (n : List ℕ) (v : Verdict) → firstBroken (nameRules (h .writer) (h .dictionary) n) ≡ v → After (name n)
+  unfolding next openAfter writer.nameOf
+  name-after n sound e = rw e (name-kept (h .writer) n (h .payload) es (heldAs (h .writer) (h .dictionary) n) g)
+  name-after n (broken m p) e = rw e g
+
+  entry-after : (t : Epoch) (text : List ℕ) (count : ℕ) (fields : List Field) → (t .0 < 2 ^ 64) × AllRanged (take count fields) → (v : Verdict)
+      → firstBroken (entryRules (h .writer) t text count (take count fields) (length (h .payload))) ≡ v → After (entry t text count fields)
+  unfolding next openAfter entryOf entryOut
+  entry-after t text count fields r sound e =
+      let p = entry-parts (h .writer) t text count (take count fields) (length (h .payload)) e in
+      let l : length (take count fields) ≤ count = omega (arith, length-take count fields) in
+      rw e (opened-more (h .writer) (h .payload) es g t text count (take count fields) (r .0) (r .1) l (p .0) (p .1) (p .2))
+  entry-after t text count fields r (broken n p) e = rw e g
+
+  block-after : (a : Adding) (out : List ℕ) (v : Verdict) → firstBroken (blockRules (h .writer) a (length (h .table)) (length out)) ≡ v → After (block a out)
+  unfolding next openAfter blockOf withBlock
+  block-after a out sound e = rw e (opened-none (withBlock (h .writer) a) (h .payload) [] refl refl)
+  block-after a out (broken n p) e = rw e g
+
+  close-after : (plain stored out : List ℕ) (v : Verdict) → firstBroken (closeRules (h .writer) (h .table) plain stored (length out)) ≡ v
+      → After (close plain stored out)
+  unfolding next openAfter closeOf closed
+  close-after plain stored out sound e = rw e (kept (h .writer) (closed (h .writer)) (h .payload) es refl (omega arith) (closed-not-new (h .writer)) g)
+  close-after plain stored out (broken n p) e = rw e g
+
+  opened-next : (c : Call) → Ranges c → After c
+  opened-next (begin out) r = begin-after out (firstBroken (beginRules (h .writer) (length out))) refl
+  opened-next (name n) r = name-after n (firstBroken (nameRules (h .writer) (h .dictionary) n)) refl
+  opened-next (entry t text count fields) r =
+      entry-after t text count fields r (firstBroken (entryRules (h .writer) t text count (take count fields) (length (h .payload)))) refl
+  opened-next (block a out) r = block-after a out (firstBroken (blockRules (h .writer) a (length (h .table)) (length out))) refl
+  opened-next (close plain stored out) r = close-after plain stored out (firstBroken (closeRules (h .writer) (h .table) plain stored (length out))) refl
+
+-- ---- every list of calls
+
+opened-last : (cs : List Call) → AllRanges cs → (h : Writing) (es : List Entry) → Opened (h .writer) (h .payload) es
+    → Opened (last h cs .writer) (last h cs .payload) (openBehind es h cs)
+unfolding last openBehind
+opened-last [] r h es g = g
+opened-last (c ∷ cs) r h es g = opened-last cs (r .1) (next h c) (openAfter es h c) (opened-next h es g c (r .0))
+
+module _ (k : Writing) (es : List Entry) (g : Opened (k .writer) (k .payload) es) where
+  -- an adding that takes the plain bytes so far
+  adding-reads : 1 ≤ k .writer .pending .plain → (stored : List ℕ) → (
+      let a = adding (k .writer .pending .start) (take (k .writer .pending .plain) (k .payload)) stored (k .writer .names) in
+      (readBy a ≡ given es) × (blockFor a .end ≡ k .writer .pending .last .0) × (blockFor a .entries ≡ length es))
+  unfolding readBy blockFor
+  adding-reads h stored = let r = g .reads h in rw r (refl, g .last h, refl)
+
+  holds-entries : HoldsEntries k es
+  holds-entries =
+      record {
+        shut = g .shut;
+        some = λ h. some-read (take (k .writer .pending .plain) (k .payload)) (k .writer .pending .start .0) (k .writer .names) es (g .reads h);
+        reads = g .reads;
+        start = g .start;
+        last = g .last;
+        adds = adding-reads;
+      }
+
+pub entries-built : EntriesBuilt
+unfolding EntriesBuilt
+entries-built d p table cs r =
+    let h = newWriting d p table in
+    holds-entries (last h cs) (entriesOpen h cs) (opened-last cs r h [] (opened-none (h .writer) p [] refl refl))
