@@ -1,15 +1,15 @@
 -- What every list of calls leaves of the entries of the open block: they are read from its plain bytes. Assumes nothing.
 use mathlib.Core.Path.{_≡_, refl, sym, ap, _∙_}
-use mathlib.Core.Bool.{true}
+use mathlib.Core.Bool.{true, false}
 use mathlib.Core.List.{List, [], _∷_, _++_, append-assoc}
-use Prim.Native.Nat.{ℕ, zero, suc, _+_, _-_, _^_, _≤_, _<_}
+use Prim.Native.Nat.{ℕ, _+_, _-_, _^_, _≤_, _<_}
 use native.Mathlib.Omega.{arith}
 use native.Mathlib.Decide.{decLe}
 use lib.ListN.{length, take, drop, length-append, length-take}
 use lib.Seq.{take-at, length-take-le}
-use borrow.Author.Tests.{leb-true, le-leb}
-use Rattle.verdict.specs.Rules.{holds, Verdict, sound, broken, firstBroken, given, Held}
-use Rattle.verdict.proofs.Laws.{sound-held, held-sound, held-parts}
+use borrow.Author.Tests.{ltb-false, leb-true, le-leb}
+use Rattle.verdict.specs.Rules.{holds, Verdict, sound, broken, firstBroken, given, Held, verdictIn, ruled}
+use Rattle.verdict.proofs.Laws.{sound-held, held-sound, held-parts, then-sound, first-ruled}
 use Rattle.wire.specs.Wire.{le, splice}
 use Rattle.wire.proofs.Splices.{splice-parts}
 use Rattle.parts.specs.declared.time.Epoch.{Epoch}
@@ -23,26 +23,28 @@ use Rattle.entries.proofs.Accepted.{some-read, last-appended}
 use Rattle.entries.proofs.RoundTrip.{read-known}
 use Rattle.packing.specs.Entry.{sizeOf, fieldIn, fieldsIn, fieldSize, fieldsSize, entrySize, entryBytes}
 use Rattle.packing.specs.Inner.{AllRanged, Within, AllWithin}
-use Rattle.packing.specs.Rules.{largest, textRules, fieldRules, roomRules, sizedRules, packRules}
-use Rattle.packing.proofs.Stores.{size-is, length-all}
+use Rattle.packing.specs.Rules.{largest, textRules, fieldRules, sizedRules, packRules}
+use Rattle.packing.specs.Rules as packing
+use Rattle.packing.proofs.Stores.{size-is}
 use Rattle.packing.proofs.Answers.{all-within}
 use Rattle.packing.proofs.RoundTrip.{reads-behind, first-reads}
 use Rattle.lookup.specs.Lookup.{Found, numbered, missing}
 use Rattle.writer.specs.declared.state.Writer.{Writer}
-use Rattle.writer.specs.State.{begunWriter, isNew, begunRules}
+use Rattle.writer.specs.State.{begunWriter, isNew, isBegun, isOpen, begunRules}
 use Rattle.writer.specs.Begin.{beginRules, beginOf}
-use Rattle.writer.specs.Name.{heldAs, nameRules, withName, namingOf, nameOut}
+use Rattle.writer.specs.Name.{heldAs, nameRules, withName, namingOf}
 use Rattle.writer.specs.Name as writer
 use Rattle.writer.specs.Entry.{startFor, earliestFor, deltaFor, timeRules, entryRules, withEntry, entryOf, entryOut}
-use Rattle.writer.specs.Block.{Adding, adding, readBy, blockFor, blockRules, withBlock, blockOf}
+use Rattle.writer.specs.Block.{Adding, readBy, blockFor, takeRules, roomRules, blockRules, withBlock, blockOf}
 use Rattle.writer.specs.Close.{closeRules, closed, closeOf}
-use Rattle.writer.proofs.Turns.{turn-begun}
-use Rattle.writer.proofs.Entries.{start-open, earliest-open, start-new, time-from}
-use Rattle.writer.proofs.Blocks.{block-entries}
-use Rattle.claims.specs.Calls.{Call, begin, name, entry, block, close, Writing, newWriting, next, last}
-use Rattle.claims.specs.Built.{Ranges, AllRanges, openAfter, openBehind, entriesOpen, HoldsEntries, EntriesBuilt}
-use Rattle.claims.proofs.Calls.{parts-sound}
-use Rattle.claims.proofs.Names.{begun-not-new, begin-new, closed-not-new}
+use Rattle.writer.proofs.Turns.{turn-begun, bounded}
+use Rattle.writer.proofs.Entries.{start-open, earliest-open, start-new, earliest-new, time-from}
+use Rattle.writer.proofs.Blocks.{take-sound, room-sound}
+use Rattle.writer.proofs.Closes.{close-good}
+use Rattle.claims.specs.Calls.{Call, begin, name, entry, block, close, Writing, newWriting, next, accepted, last}
+use Rattle.claims.specs.Built.{Ranges, AllRanges, openAfter, openBehind, entriesOpen, openAdding, Addable, HoldsEntries, EntriesBuilt}
+use Rattle.claims.proofs.Calls.{parts-sound, block-accepted}
+use Rattle.claims.proofs.Names.{Bounds, bounds-new, bounds-last, begun-not-new, begin-new}
 
 -- ---- an entry that packing accepts: the room that it takes
 
@@ -72,9 +74,9 @@ module _ (room at d names : ℕ) (t : List ℕ) (count : ℕ) (fs : List Field) 
   unfolding packRules
   texts-held = held-parts (textRules fs) (sizedRules room at d names t fs) (sound-held (packRules room at d names t count fs) e .1 .1)
 
-  fields-held : Held (fieldRules names t (at + length (encode d) + 1) fs) × Held (roomRules room (at + entrySize d fs))
+  fields-held : Held (fieldRules names t (at + length (encode d) + 1) fs) × Held (packing.roomRules room (at + entrySize d fs))
   unfolding sizedRules
-  fields-held = held-parts (fieldRules names t (at + length (encode d) + 1) fs) (roomRules room (at + entrySize d fs)) (texts-held .1 .1)
+  fields-held = held-parts (fieldRules names t (at + length (encode d) + 1) fs) (packing.roomRules room (at + entrySize d fs)) (texts-held .1 .1)
 
   pack-length : length (entryBytes d (fieldsIn t fs)) ≡ entrySize d fs
   pack-length =
@@ -82,7 +84,7 @@ module _ (room at d names : ℕ) (t : List ℕ) (count : ℕ) (fs : List Field) 
       entry-length d t fs (all-within names t (at + length (encode d) + 1) fs (held-sound f (fields-held .0)) (texts-held .0))
 
   pack-room : at + entrySize d fs ≤ room
-  unfolding roomRules holds
+  unfolding packing.roomRules holds
   pack-room = leb-true (at + entrySize d fs) room (fields-held .1 .0)
 
   -- the number of fields that count is at least the number of those that are there
@@ -107,7 +109,9 @@ pub record Opened (w : Writer) (p : List ℕ) (es : List Entry) : Type 0 where
   pub reads : 1 ≤ w .pending .plain → entriesOf (take (w .pending .plain) p) (w .pending .start .0) (w .names) ≡ given es
   pub start : (e : Entry) (rest : List Entry) → es ≡ e ∷ rest → e .time ≡ w .pending .start .0
   pub last : 1 ≤ w .pending .plain → lastTime (w .pending .start .0) es ≡ w .pending .last .0
-  pub new : isNew (w .turn) ≡ true → w .pending .plain ≡ 0
+  pub turn : 1 ≤ w .pending .plain → isBegun (w .turn) ≡ true
+  pub after : 1 ≤ w .pending .plain → w .end .0 ≤ w .pending .start .0
+  pub number : 1 ≤ w .pending .plain → w .blocks < 4096
 
 no-first : (es : List Entry) → es ≡ [] → (e : Entry) (rest : List Entry) → es ≡ e ∷ rest → ⊥
 no-first es n e rest q = let z : _≡_ {A = ℕ} 0 1 = cc in omega arith
@@ -120,7 +124,9 @@ opened-none w p es z n =
       reads = λ h. absurd (omega arith);
       start = λ e rest q. absurd (no-first es n e rest q);
       last = λ h. absurd (omega arith);
-      new = λ e. z;
+      turn = λ h. absurd (omega arith);
+      after = λ h. absurd (omega arith);
+      number = λ h. absurd (omega arith);
     }
 
 -- the first of entries with one more behind them
@@ -190,6 +196,21 @@ module _ (w : Writer) (p : List ℕ) (es : List Entry) (g : Opened w p es) (t : 
           ∙ ap (λ (y : Epoch). y .0) (start-open w h t)
       go (no h) = alone (g .shut (omega arith)) (ap (λ (y : Epoch). y .0) (start-new w (omega arith) t))
 
+  few-blocks : w .blocks < 4096
+  unfolding timeRules holds
+  few-blocks = let h : w .blocks + 1 ≤ 4096 = leb-true _ _ (sound-held (timeRules w t) u .1 .1 .0) in omega arith
+
+  start-after : w .end .0 ≤ startFor w t .0
+  unfolding timeRules holds
+  start-after = go (decLe 1 (w .pending .plain)) (leb-true _ _ (sound-held (timeRules w t) u .0))
+    where
+      go : Dec (1 ≤ w .pending .plain) → earliestFor w .0 ≤ t .0 → w .end .0 ≤ startFor w t .0
+      go (yes h) a = let s : w .pending .start .0 ≡ startFor w t .0 = ap (λ (x : Epoch). x .0) (start-open w h t) in omega (arith, g .after h)
+      go (no h) a =
+          let s : t .0 ≡ startFor w t .0 = ap (λ (x : Epoch). x .0) (start-new w (omega arith) t) in
+          let l : w .end .0 ≡ earliestFor w .0 = ap (λ (x : Epoch). x .0) (earliest-new w (omega arith)) in
+          omega arith
+
   opened-more : Opened (withEntry w t fs) (splice p (w .pending .plain) more) (es ++ (entryIn t text fs ∷ []))
   unfolding withEntry
   opened-more =
@@ -199,28 +220,38 @@ module _ (w : Writer) (p : List ℕ) (es : List Entry) (g : Opened w p es) (t : 
         reads = λ h. rw plain-after both-read;
         start = first-time;
         last = λ h. last-appended (startFor w t .0) es (entryIn t text fs);
-        new = λ n. absurd (begun-not-new (w .turn) (turn-begun w b) n);
+        turn = λ h. turn-begun w b;
+        after = λ h. start-after;
+        number = λ h. few-blocks;
       }
 
 -- ---- one call
 
--- a state with the same open block, as many names or more, and no newer turn
-kept : (w v : Writer) (p : List ℕ) (es : List Entry) → v .pending ≡ w .pending → w .names ≤ v .names → (isNew (v .turn) ≡ true → isNew (w .turn) ≡ true)
-    → Opened w p es → Opened v p es
-kept w v p es a l t g =
-    rw a
-    (record {
-      shut = g .shut;
-      reads = λ h. read-known (w .names) (w .pending .start .0) es (take (w .pending .plain) p) (g .reads h) (v .names) l;
-      start = g .start;
-      last = g .last;
-      new = λ e. g .new (t e);
-    })
-
 name-kept : (w : Writer) (n p : List ℕ) (es : List Entry) (f : Found) → Opened w p es → Opened (namingOf f w n .next) p es
 unfolding withName
 name-kept w n p es (numbered i) g = g
-name-kept w n p es missing g = kept w (withName w (length n)) p es refl (omega arith) (λ x. x) g
+name-kept w n p es missing g =
+    record {
+      shut = g .shut;
+      reads = λ h. read-known (w .names) (w .pending .start .0) es (take (w .pending .plain) p) (g .reads h) (w .names + 1) (omega arith);
+      start = g .start;
+      last = g .last;
+      turn = g .turn;
+      after = g .after;
+      number = g .number;
+    }
+
+-- begin comes before any block is open, and "close comes last, with no block open"
+new-shut : (w : Writer) (p : List ℕ) (es : List Entry) → Opened w p es → isNew (w .turn) ≡ true → w .pending .plain ≡ 0
+new-shut w p es g n =
+    elim (decLe 1 (w .pending .plain)) [
+      | yes h ↦ absurd (begun-not-new (w .turn) (g .turn h) n)
+      | no h ↦ omega arith
+    ]
+
+not-open : (w : Writer) → isOpen w ≡ false → w .pending .plain ≡ 0
+unfolding isOpen
+not-open w e = let h = ltb-false 0 (w .pending .plain) e in omega arith
 
 entry-parts : (w : Writer) (t : Epoch) (text : List ℕ) (count : ℕ) (fs : List Field) (room : ℕ) → firstBroken (entryRules w t text count fs room) ≡ sound
     → (firstBroken (begunRules w) ≡ sound) × (firstBroken (timeRules w t) ≡ sound)
@@ -237,7 +268,7 @@ module _ (h : Writing) (es : List Entry) (g : Opened (h .writer) (h .payload) es
 
   begin-after : (out : List ℕ) (v : Verdict) → firstBroken (beginRules (h .writer) (length out)) ≡ v → After (begin out)
   unfolding next openAfter beginOf
-  begin-after out sound e = rw e (opened-none begunWriter (h .payload) es refl (g .shut (g .new (begin-new (h .writer) (length out) e))))
+  begin-after out sound e = rw e (opened-none begunWriter (h .payload) es refl (g .shut (new-shut (h .writer) (h .payload) es g (begin-new (h .writer) (length out) e))))
   begin-after out (broken n p) e = rw e g
 
   name-after : (n : List ℕ) (v : Verdict) → firstBroken (nameRules (h .writer) (h .dictionary) n) ≡ v → After (name n)
@@ -262,7 +293,9 @@ module _ (h : Writing) (es : List Entry) (g : Opened (h .writer) (h .payload) es
   close-after : (plain stored out : List ℕ) (v : Verdict) → firstBroken (closeRules (h .writer) (h .table) plain stored (length out)) ≡ v
       → After (close plain stored out)
   unfolding next openAfter closeOf closed
-  close-after plain stored out sound e = rw e (kept (h .writer) (closed (h .writer)) (h .payload) es refl (omega arith) (closed-not-new (h .writer)) g)
+  close-after plain stored out sound e =
+      let z = not-open (h .writer) (close-good (h .writer) (h .table) plain stored (length out) e .shut) in
+      rw e (opened-none (closed (h .writer)) (h .payload) es z (g .shut z))
   close-after plain stored out (broken n p) e = rw e g
 
   opened-next : (c : Call) → Ranges c → After c
@@ -281,27 +314,48 @@ unfolding last openBehind
 opened-last [] r h es g = g
 opened-last (c ∷ cs) r h es g = opened-last cs (r .1) (next h c) (openAfter es h c) (opened-next h es g c (r .0))
 
-module _ (k : Writing) (es : List Entry) (g : Opened (k .writer) (k .payload) es) where
-  -- an adding that takes the plain bytes so far
-  adding-reads : 1 ≤ k .writer .pending .plain → (stored : List ℕ) → (
-      let a = adding (k .writer .pending .start) (take (k .writer .pending .plain) (k .payload)) stored (k .writer .names) in
-      (readBy a ≡ given es) × (blockFor a .end ≡ k .writer .pending .last .0) × (blockFor a .entries ≡ length es))
+module _ (k : Writing) (es : List Entry) (g : Opened (k .writer) (k .payload) es) (b : Bounds (k .writer)) (h : 1 ≤ k .writer .pending .plain) where
+  -- an adding of the open block
+  adding-reads : (stored : List ℕ) → (
+      let a = openAdding k stored in
+      (readBy a ≡ given es) × (blockFor a .entries ≡ length es) × (blockFor a .end ≡ k .writer .pending .last .0))
   unfolding readBy blockFor
-  adding-reads h stored = let r = g .reads h in rw r (refl, g .last h, refl)
+  adding-reads stored = rw (g .reads h) (refl, refl, g .last h)
 
-  holds-entries : HoldsEntries k es
-  holds-entries =
-      record {
-        shut = g .shut;
-        some = λ h. some-read (take (k .writer .pending .plain) (k .payload)) (k .writer .pending .start .0) (k .writer .names) es (g .reads h);
-        reads = g .reads;
-        start = g .start;
-        last = g .last;
-        adds = adding-reads;
-      }
+  adding-takes : (stored out : List ℕ) → Addable k stored out → firstBroken (takeRules (k .writer) (openAdding k stored)) ≡ sound
+  adding-takes stored out r =
+      let w = k .writer in
+      let d = bounded w (b (g .turn h)) in
+      let l : length (take (w .pending .plain) (k .payload)) ≤ largest = omega (arith, length-take (w .pending .plain) (k .payload), d .plain) in
+      take-sound w (openAdding k stored) (g .after h) (g .number h) (d .names) (r .fits) l (r .names)
+
+  adding-taken : (stored out : List ℕ) → Addable k stored out → accepted k (block (openAdding k stored) out) ≡ openAdding k stored ∷ []
+  unfolding blockRules
+  adding-taken stored out r =
+      let w = k .writer in
+      let a = openAdding k stored in
+      let v = verdictIn (readBy a) in
+      let room = roomRules w stored (length (k .table)) (length out) in
+      block-accepted k a out
+      (then-sound (begunRules w) (takeRules w a ++ (ruled v ++ room)) (b (g .turn h))
+      ∙ then-sound (takeRules w a) (ruled v ++ room) (adding-takes stored out r)
+      ∙ then-sound (ruled v) room (first-ruled v ∙ ap verdictIn (adding-reads stored .0))
+      ∙ room-sound w stored (length (k .table)) (length out) (r .rows) (r .room))
+
+holds-entries : (k : Writing) (es : List Entry) → Opened (k .writer) (k .payload) es → Bounds (k .writer) → HoldsEntries k es
+holds-entries k es g b =
+    record {
+      shut = g .shut;
+      some = λ h. some-read (take (k .writer .pending .plain) (k .payload)) (k .writer .pending .start .0) (k .writer .names) es (g .reads h);
+      reads = g .reads;
+      start = g .start;
+      last = g .last;
+      adds = adding-reads k es g b;
+      taken = adding-taken k es g b;
+    }
 
 pub entries-built : EntriesBuilt
 unfolding EntriesBuilt
 entries-built d p table cs r =
     let h = newWriting d p table in
-    holds-entries (last h cs) (entriesOpen h cs) (opened-last cs r h [] (opened-none (h .writer) p [] refl refl))
+    holds-entries (last h cs) (entriesOpen h cs) (opened-last cs r h [] (opened-none (h .writer) p [] refl refl)) (bounds-last cs h (bounds-new d p table))

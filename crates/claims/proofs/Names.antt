@@ -35,7 +35,7 @@ use Rattle.writer.proofs.Blocks.{block-bounded}
 use Rattle.claims.specs.Calls.{Call, begin, name, entry, block, close, Writing, newWriting, ifGiven, next, last}
 use Rattle.claims.specs.Built.{among, heldAfter, heldBehind, namesHeld, namesBytes, plainNames, HoldsNames, NamesBuilt}
 use Rattle.claims.proofs.Calls.{parts-sound}
-use Rattle.claims.proofs.Listed.{Right, right-none, right-more, length-name, names-more, name-there, number-one, length-plain, plain-accepted}
+use Rattle.claims.proofs.Listed.{Right, right-none, right-more, length-name, names-more, name-there, number-one, plain-accepted}
 
 -- ---- a search among the names
 
@@ -80,7 +80,7 @@ among-not (x ∷ ns) n d = go (same x n) refl (among-not ns n (λ i h. d (suc i)
 
 -- ---- a state between begin and close is within its bounds
 
-abbrev Bounds : Writer → Type 0
+abbrev pub Bounds : Writer → Type 0
 Bounds w = isBegun (w .turn) ≡ true → firstBroken (begunRules w) ≡ sound
 
 bounds-closed : (w : Writer) → Bounds (closed w)
@@ -267,7 +267,7 @@ pub begin-new : (w : Writer) (room : ℕ) → firstBroken (beginRules w room) �
 unfolding beginRules holds
 begin-new w room e = sound-held (beginRules w room) e .0
 
-pub closed-not-new : (w : Writer) → isNew (closed w .turn) ≡ true → isNew (w .turn) ≡ true
+closed-not-new : (w : Writer) → isNew (closed w .turn) ≡ true → isNew (w .turn) ≡ true
 unfolding closed isNew
 closed-not-new w e = let z : _≡_ {A = ℕ} 0 1 = cc in absurd (omega arith)
 
@@ -324,7 +324,7 @@ holding-new : (d p table : List ℕ) → Holding (newWriting d p table .writer) 
 unfolding namesBytes
 holding-new d p table = record { count = refl; size = refl; whole = λ s. absurd (omega (arith, s)); right = right-none; new = λ t. refl }
 
-bounds-new : (d p table : List ℕ) → Bounds (newWriting d p table .writer)
+pub bounds-new : (d p table : List ℕ) → Bounds (newWriting d p table .writer)
 unfolding isBegun
 bounds-new d p table e = let z : _≡_ {A = ℕ} 0 1 = cc in absurd (omega arith)
 
