@@ -211,7 +211,7 @@ module _ (ns : List (List ℕ)) (right : Right ns) where
   unfolding plainNames
   plain-there = drop-at (le 4 (length ns)) (namesBytes 0 ns) 4 (length-le 4 (length ns)) ∙ sym (append-nil (namesBytes 0 ns))
 
-  plain-count : leAt 4 (plainNames ns) 0 ≡ length ns
+  pub plain-count : leAt 4 (plainNames ns) 0 ≡ length ns
   unfolding plainNames
   plain-count = leAt-le 4 (length ns) [] (namesBytes 0 ns) (omega (arith, right .few))
 
@@ -230,12 +230,14 @@ module _ (ns : List (List ℕ)) (right : Right ns) where
       ∙ flag-holds 10 (placeOf s i + 4) (namesRules left s (i + 1)) (not (held s i (nameOf s i))) (ap not (new-there s [] ns right plain-there i l))
       ∙ names-sound left (i + 1) (omega arith)
 
-  pub plain-accepted : dictionaryOf (plainNames ns) ≡ given (length ns)
-  unfolding dictionaryOf dictionaryRules
-  plain-accepted =
+  pub plain-sound : firstBroken (dictionaryRules (plainNames ns)) ≡ sound
+  unfolding dictionaryRules
+  plain-sound =
       let s = plainNames ns in
       let l = length-plain in
-      let v : firstBroken (dictionaryRules s) ≡ sound =
       least-holds 10 0 _ (length s) 4 (omega arith) ∙ most-holds 10 0 _ (leAt 4 s 0) 65535 (omega (arith, plain-count, right .few))
-      ∙ rw plain-count (names-sound (length ns) 0 (omega arith)) in
-      rw (v, plain-count)
+      ∙ rw plain-count (names-sound (length ns) 0 (omega arith))
+
+  pub plain-accepted : dictionaryOf (plainNames ns) ≡ given (length ns)
+  unfolding dictionaryOf
+  plain-accepted = rw (plain-sound, plain-count)

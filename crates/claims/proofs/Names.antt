@@ -1,6 +1,6 @@
 -- What every list of calls leaves of the names that it adds: the lent dictionary is the plain dictionary of those held. Assumes nothing.
 use mathlib.Core.Path.{_≡_, refl, sym, ap, _∙_}
-use mathlib.Core.Bool.{Bool, true, false, cond, _||_, or-true}
+use mathlib.Core.Bool.{Bool, true, false, not, cond, _||_, or-true}
 use mathlib.Core.List.{List, [], _∷_, _++_, append-assoc}
 use Prim.Native.Nat.{ℕ, zero, suc, _+_, _-_, _≤_, _<_}
 use native.Mathlib.Omega.{arith}
@@ -8,15 +8,15 @@ use native.Mathlib.Decide.{decLt}
 use lib.ListN.{length, getD, take, drop, length-append, take-append-drop}
 use lib.Seq.{take-at, drop-at, length-take-le, drop-append-le, getD-append-seam}
 use borrow.Author.Tests.{leb-true}
-use Rattle.verdict.specs.Rules.{holds, Verdict, sound, broken, firstBroken, Outcome, given, refused}
-use Rattle.verdict.proofs.Laws.{sound-held, settle-given}
-use Rattle.wire.specs.Wire.{le, splice, same}
+use Rattle.verdict.specs.Rules.{holds, Verdict, sound, broken, firstBroken, Outcome, given, refused, verdictIn}
+use Rattle.verdict.proofs.Laws.{first-none, sound-held, settle-given, flag-holds, least-holds, most-holds, then-sound}
+use Rattle.wire.specs.Wire.{le, leAt, splice, same}
 use Rattle.wire.proofs.Numbers.{length-le}
 use Rattle.wire.proofs.Splices.{length-splice, splice-parts}
 use Rattle.wire.proofs.Lists.{drop-take}
 use Rattle.wire.proofs.Compares.{same-refl, same-equal}
 use Rattle.utf8.specs.Utf8.{utf8Of}
-use Rattle.names.specs.Dictionary.{nameOf, dictionaryOf}
+use Rattle.names.specs.Dictionary.{nameOf, dictionaryRules, dictionaryOf}
 use Rattle.lookup.specs.Lookup.{Found, numbered, missing, seekFrom}
 use Rattle.writer.specs.declared.state.Turn.{Turn}
 use Rattle.writer.specs.declared.state.Turn.the-variants as turn
@@ -27,15 +27,15 @@ use Rattle.writer.specs.Name.{Naming, heldAs, newRules, unlessHeld, nameRules, 
 use Rattle.writer.specs.Name as writer
 use Rattle.writer.specs.Entry.{entryRules, withEntry, entryOf}
 use Rattle.writer.specs.Block.{blockRules, withBlock, blockOf}
-use Rattle.writer.specs.Close.{closeRules, closed, closeOf}
+use Rattle.writer.specs.Close.{lastBytes, endRules, lastRules, closeRules, closed, closeOf}
 use Rattle.writer.proofs.Turns.{turn-begun}
 use Rattle.writer.proofs.Names.{name-held}
 use Rattle.writer.proofs.Kept.{begin-bounded, name-bounded, entry-bounded}
 use Rattle.writer.proofs.Blocks.{block-bounded}
 use Rattle.claims.specs.Calls.{Call, begin, name, entry, block, close, Writing, newWriting, ifGiven, next, last}
-use Rattle.claims.specs.Built.{among, heldAfter, heldBehind, namesHeld, namesBytes, plainNames, HoldsNames, NamesBuilt}
+use Rattle.claims.specs.Built.{among, heldAfter, heldBehind, namesHeld, namesBytes, plainNames, Closable, HoldsNames, NamesBuilt}
 use Rattle.claims.proofs.Calls.{parts-sound}
-use Rattle.claims.proofs.Listed.{Right, right-none, right-more, length-name, names-more, name-there, number-one, plain-accepted}
+use Rattle.claims.proofs.Listed.{Right, right-none, right-more, length-name, names-more, name-there, number-one, plain-count, plain-sound, plain-accepted}
 
 -- ---- a search among the names
 
@@ -347,12 +347,29 @@ module _ (k : Writing) (ns : List (List ℕ)) (g : Holding (k .writer) (k .dicti
       let r = name-held (k .writer) (k .dictionary) n (b t) i (old-number (k .writer) (k .dictionary) ns g i l (heldAs (k .writer) (k .dictionary) n) refl) in
       (sym (r .0), sym (r .1))
 
+  closing-sound : 1 ≤ length ns → (stored out : List ℕ) → Closable k stored out
+      → verdictIn (closeOf (k .writer) (k .table) (take (k .writer .dictionary) (k .dictionary)) stored (length out)) ≡ sound
+  unfolding closeOf closeRules endRules lastRules
+  closing-sound s stored out c =
+      let w = k .writer in
+      let n = leAt 4 (plainNames ns) 0 in
+      let size = length (lastBytes w (k .table) stored) in
+      let ends : firstBroken (endRules w (length (k .table)) stored) ≡ sound =
+      flag-holds _ _ _ _ (ap not (c .shut)) ∙ least-holds _ _ _ _ _ (c .rows) ∙ most-holds _ _ _ _ _ (c .fits) ∙ least-holds _ _ _ _ _ (c .some) ∙ first-none in
+      let lasts : firstBroken (lastRules w n size (length out)) ≡ sound =
+      least-holds _ _ _ _ _ (omega (arith, plain-count ns (g .right), g .count, c .given)) ∙ least-holds _ _ _ _ _ (c .room) ∙ first-none in
+      let all : firstBroken (closeRules w (k .table) (plainNames ns) stored (length out)) ≡ sound =
+      then-sound (begunRules w) _ (b (c .turn)) ∙ then-sound (endRules w (length (k .table)) stored) _ ends
+      ∙ then-sound (dictionaryRules (plainNames ns)) _ (plain-sound ns (g .right)) ∙ lasts in
+      rw (g .whole s, all)
+
   holds-names : HoldsNames k ns
   holds-names =
       record {
         count = g .count;
         bytes = g .whole;
         accepted = λ s. ap dictionaryOf (g .whole s) ∙ plain-accepted ns (g .right) ∙ ap given (sym (g .count));
+        closes = closing-sound;
         each = each-held (k .writer) (k .dictionary) ns g;
         number = number-told;
         old = old-told;
