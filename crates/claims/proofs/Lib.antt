@@ -1,4 +1,4 @@
--- The claims: the worked cases, what recovery and repair find on a disk that was cut, that a finished file opens, and demands 2 and 3.
+-- The claims: the worked cases, what recovery and repair find on a disk that was cut, that a finished file opens, demands 2 and 3, and what calls leave in the lent buffers.
 pub mod Worked
 pub mod Blocks
 pub mod Full
@@ -14,10 +14,10 @@ pub mod Taken
 pub mod Runs
 pub mod InFull
 pub mod Again
+pub mod Listed
 pub mod Plain
 pub mod Demand3
 pub mod Demand2
-pub mod Examples
-pub mod Listed
 pub mod Names
 pub mod Entries
+pub mod Examples
