@@ -1,5 +1,4 @@
 // What the library answers to an input, as text in a buffer: each function says how long the text is.
-use crate::text;
 use entries::Entries;
 use label::Labelled;
 use lookup::Located;

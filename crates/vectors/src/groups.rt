@@ -1,6 +1,5 @@
 // The groups of cases, and how many of each agree.
 use crate::answers;
-use crate::text;
 use libc::STDOUT_FILENO;
 ghost use Prim.Native.Nat.{_<_};
 ghost use Rattle.io.specs.Counts.{Counts};

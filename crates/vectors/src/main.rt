@@ -18,7 +18,6 @@
 // It prints how many cases of each group agree, and before that each case that doesn't, with the answer that the library gave.
 mod answers;
 mod groups;
-mod text;
 
 use groups::Tally;
 use libc::STDIN_FILENO;

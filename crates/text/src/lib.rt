@@ -120,3 +120,34 @@ pub fn unhex(s: &[u8], out: &mut [u8]) -> usize
     }
     n
 }
+
+// The word behind so many spaces; empty where there is none.
+pub fn word(line: &[u8], i: usize) -> &[u8] {
+    let mut at = 0;
+    let mut left = i;
+    while 0 < left {
+        at = past(line, find(line, at, b' '));
+        left -= 1;
+    }
+    let end = find(line, at, b' ');
+    wire::part_at(line, at, end - at)
+}
+
+// A number with one decimal digit more: one of 64 bits.
+fn with_digit(n: u64, d: u64) -> u64 {
+    if 1_844_674_407_370_955_161 < n {
+        return n;
+    }
+    std::num::wrapping_add_u64(n * 10, d)
+}
+
+// The number that s spells in decimal digits.
+pub fn number(s: &[u8]) -> u64 {
+    let mut n: u64 = 0;
+    let mut i = 0;
+    while i < s.len() {
+        n = with_digit(n, wide(digit(s[i])));
+        i += 1;
+    }
+    n
+}

@@ -3,8 +3,8 @@ use Prim.Native.Nat.{_-_}
 use lib.ListN.{length}
 use Rattle.io.specs.Counts.{Counts}
 use borrow.Author.Needs.{needs}
-use Rattle.vectors.proofs.text.with_bytes.Statement.{statement}
-use Rattle.vectors.proofs.text.with_bytes.Tie as tie
+use Rattle.text.proofs.with_bytes.Statement.{statement}
+use Rattle.text.proofs.with_bytes.Tie as tie
 
 abbrev Inv-loop : tie.InvT-loop
 Inv-loop out₀ at s end₀ i₀ out end i = (length out ≡ length out₀) × Counts end out

@@ -1,8 +1,8 @@
 use native.Mathlib.Omega.{arith}
-use Rattle.vectors.proofs.Counting.{counts}
+use Rattle.text.proofs.Counting.{counts}
 use borrow.Author.Needs.{needs}
-use Rattle.vectors.proofs.text.reach.Statement.{statement}
-use Rattle.vectors.proofs.text.reach.Tie as tie
+use Rattle.text.proofs.reach.Statement.{statement}
+use Rattle.text.proofs.reach.Tie as tie
 
 returns : tie.Need-returns
 returns c = counts _ _ (omega arith)

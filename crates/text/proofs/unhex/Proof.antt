@@ -2,10 +2,10 @@ use native.Mathlib.Omega.{arith}
 use mathlib.Core.Path.{_≡_}
 use Prim.Native.Nat.{_≤_, _-_}
 use lib.ListN.{length, length-set}
-use Rattle.vectors.proofs.Counting.{counts}
+use Rattle.text.proofs.Counting.{counts}
 use borrow.Author.Needs.{needs}
-use Rattle.vectors.proofs.text.unhex.Statement.{statement}
-use Rattle.vectors.proofs.text.unhex.Tie as tie
+use Rattle.text.proofs.unhex.Statement.{statement}
+use Rattle.text.proofs.unhex.Tie as tie
 
 abbrev Inv-loop : tie.InvT-loop
 Inv-loop s out₀ n i₀ out i = (i ≤ n) × (length out ≡ length out₀)

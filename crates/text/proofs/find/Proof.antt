@@ -1,8 +1,8 @@
 use Prim.Native.Nat.{_≤_, _-_, min}
 use lib.ListN.{length}
 use borrow.Author.Needs.{needs}
-use Rattle.vectors.proofs.text.find.Statement.{statement}
-use Rattle.vectors.proofs.text.find.Tie as tie
+use Rattle.text.proofs.find.Statement.{statement}
+use Rattle.text.proofs.find.Tie as tie
 
 abbrev Inv-loop : tie.InvT-loop
 Inv-loop s from b i₀ i = min from (length s) ≤ i
