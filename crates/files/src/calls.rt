@@ -1,0 +1,158 @@
+// What each command does, with the words of its line.
+use crate::answers;
+use crate::commands::Entering;
+use crate::commands::Filing;
+use crate::commands::Reading;
+use crate::commands::Storing;
+use crate::reading;
+use crate::writing;
+use crate::writing::Adding;
+use crate::writing::Session;
+use entries::Field;
+use entries::Value;
+use parts::Epoch;
+
+// The number that a word of a line spells.
+fn number(line: &[u8], i: usize) -> u64 {
+    text::number(text::word(line, i))
+}
+
+fn size(line: &[u8], i: usize) -> usize {
+    number(line, i) as usize
+}
+
+fn table_sum(table: &[u8]) {
+    answers::say(b"table");
+    answers::sum(table);
+    answers::end_line();
+}
+
+pub fn read(c: Reading, line: &[u8], f: &[u8], table: &mut [u8]) {
+    match c {
+        Reading::Open => reading::open_in(f, table, 114_688),
+        Reading::OpenIn => reading::open_in(f, table, size(line, 1)),
+        Reading::Recover => reading::recover_in(f, table, 114_688),
+        Reading::RecoverIn => reading::recover_in(f, table, size(line, 1)),
+        Reading::Glance => reading::glance(f, table),
+        Reading::Cuts => reading::cuts(f, table),
+        Reading::Stored => reading::stored(f, table, number(line, 1)),
+        Reading::StoredAt => reading::stored_at(f, number(line, 1), number32(line, 2)),
+        Reading::Dictionary => reading::dictionary(f, table),
+        Reading::Table => table_sum(&*table),
+        Reading::Unknown => answers::say(b"no such command\n"),
+    }
+}
+
+// The number of a word that is one of 32 bits.
+fn number32(line: &[u8], i: usize) -> u32 {
+    (number(line, i) % 0x1_0000_0000) as u32
+}
+
+// Puts the bytes of a line at an offset of the file, and says where they end.
+fn put(line: &[u8], file: &mut [u8], at: usize) -> usize {
+    let mut bytes = io::buffer();
+    let n = text::unhex(text::word(line, 1), &mut bytes);
+    text::with(file, at, &bytes[..n])
+}
+
+// Makes the disk the file.
+fn reopen(s: Session, file: &mut [u8], disk: &[u8]) -> Session {
+    let n = text::with(file, 0, wire::part_at(disk, 0, s.disk));
+    writing::with_file(s, n)
+}
+
+fn append(s: Session, line: &[u8], file: &mut [u8], at: usize) -> Session {
+    let n = put(line, file, at);
+    writing::with_file(s, n)
+}
+
+pub fn file(
+    c: Filing,
+    line: &[u8],
+    s: Session,
+    file: &mut [u8],
+    disk: &[u8],
+    table: &mut [u8],
+) -> Session {
+    match c {
+        Filing::File => append(s, line, file, 0),
+        Filing::Append => append(s, line, file, s.file),
+        Filing::Reopen => reopen(s, file, disk),
+        Filing::Flips => {
+            reading::flips(file, s.file, size(line, 1), size(line, 2), table);
+            s
+        }
+        Filing::Disk => {
+            answers::bytes_line(wire::part_at(disk, 0, s.disk));
+            s
+        }
+    }
+}
+
+fn adding(line: &[u8]) -> Adding {
+    Adding {
+        rows: size(line, 1),
+        room: size(line, 2),
+        start: Epoch(number(line, 3)),
+        names: number32(line, 4),
+    }
+}
+
+// A string of a name at a place in a text.
+fn part(line: &[u8]) -> Field {
+    Field {
+        id: (number(line, 3) % 0x1_0000) as u16,
+        value: Value::Text(size(line, 4), size(line, 5)),
+    }
+}
+
+pub fn enter(
+    c: Entering,
+    line: &[u8],
+    s: Session,
+    dictionary: &mut [u8],
+    payload: &mut [u8],
+) -> Session {
+    let room = size(line, 1);
+    match c {
+        Entering::Name => writing::name(s, room, text::word(line, 2), dictionary),
+        Entering::LongName => writing::long_name(s, room, size(line, 2), dictionary),
+        Entering::Entry => writing::entry(s, room, number(line, 2), text::word(line, 3), payload),
+        Entering::EntryCount => {
+            writing::entry_count(s, room, number(line, 2), size(line, 3), payload)
+        }
+        Entering::EntryPart => {
+            let hex = text::word(line, 6);
+            writing::entry_part(s, room, number(line, 2), part(line), hex, payload)
+        }
+    }
+}
+
+fn block(line: &[u8], s: Session, table: &mut [u8], out: &mut [u8], disk: &mut [u8]) -> Session {
+    let plain = text::word(line, 5);
+    let stored = text::word(line, 6);
+    writing::block(s, adding(line), plain, stored, table, out, disk)
+}
+
+fn close(line: &[u8], s: Session, table: &[u8], out: &mut [u8], disk: &mut [u8]) -> Session {
+    let plain = text::word(line, 2);
+    let stored = text::word(line, 3);
+    writing::close(s, size(line, 1), plain, stored, table, out, disk)
+}
+
+pub fn store(
+    c: Storing,
+    line: &[u8],
+    s: Session,
+    table: &mut [u8],
+    out: &mut [u8],
+    disk: &mut [u8],
+) -> Session {
+    match c {
+        Storing::New => writing::start(s),
+        Storing::Begin => writing::begin(s, size(line, 1), out, disk),
+        Storing::Block => block(line, s, table, out, disk),
+        Storing::Blocks => writing::blocks(s, size(line, 1), table, out, disk),
+        Storing::Close => close(line, s, &*table, out, disk),
+    }
+}

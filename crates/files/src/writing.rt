@@ -1,0 +1,329 @@
+// The writer's calls, with the bytes that are lent to it, and the disk that its stores are put on.
+use crate::answers;
+use entries::Cursor;
+use entries::Field;
+use entries::FieldStep;
+use entries::Value;
+use parts::Epoch;
+use parts::Header;
+use writer::Entered;
+use writer::Named;
+use writer::Stored;
+use writer::Writer;
+
+// What is kept from line to line, beside the lent bytes: the writer, and the lengths of the file and of the disk.
+pub struct Session {
+    pub writer: Writer,
+    pub file: usize,
+    pub disk: usize,
+}
+
+pub fn at_first() -> Session {
+    let writer = Writer::new();
+    Session {
+        writer,
+        file: 0,
+        disk: 0,
+    }
+}
+
+fn with_writer(s: Session, writer: Writer, disk: usize) -> Session {
+    Session {
+        writer,
+        file: s.file,
+        disk,
+    }
+}
+
+pub fn with_file(s: Session, file: usize) -> Session {
+    let writer = s.writer;
+    Session {
+        writer,
+        file,
+        disk: s.disk,
+    }
+}
+
+// A new writer, and an empty disk.
+pub fn start(s: Session) -> Session {
+    with_writer(s, Writer::new(), 0)
+}
+
+// Puts a store at the disk's end.
+fn append(disk: &mut [u8], end: usize, store: &[u8]) -> usize {
+    wire::copy_at(disk, end, store);
+    text::reach(&*disk, end, store.len())
+}
+
+// Puts a header at the disk's start.
+fn put_header(disk: &mut [u8], end: usize, out: &[u8]) -> usize {
+    wire::copy_at(disk, 0, wire::part_at(out, 0, Header::LEN));
+    if end < Header::LEN {
+        return Header::LEN;
+    }
+    end
+}
+
+// The session behind a call that stored a header.
+fn behind_header(s: Session, r: Stored, out: &[u8], disk: &mut [u8]) -> Session {
+    match r {
+        Stored::Refused(_) => s,
+        Stored::Done(w, _) => {
+            let end = put_header(disk, s.disk, out);
+            with_writer(s, w, end)
+        }
+    }
+}
+
+// The session behind a call that stored a block.
+fn behind_block(s: Session, r: Stored, out: &[u8], disk: &mut [u8]) -> Session {
+    match r {
+        Stored::Refused(_) => s,
+        Stored::Done(w, size) => {
+            let end = append(disk, s.disk, wire::part_at(out, 0, size as usize));
+            with_writer(s, w, end)
+        }
+    }
+}
+
+// The session behind a call that stored a header and what stands behind the blocks.
+fn behind_closing(s: Session, r: Stored, out: &[u8], disk: &mut [u8]) -> Session {
+    match r {
+        Stored::Refused(_) => s,
+        Stored::Done(w, size) => {
+            let end = put_header(disk, s.disk, out);
+            let stores = wire::part_at(out, 0, size as usize);
+            let next = append(disk, end, wire::part_at(stores, Header::LEN, stores.len()));
+            with_writer(s, w, next)
+        }
+    }
+}
+
+pub fn begin(s: Session, room: usize, out: &mut [u8], disk: &mut [u8]) -> Session {
+    let w = s.writer;
+    let n = text::reach(&*out, 0, room);
+    let r = w.begin(&mut out[..n]);
+    answers::stored(r, &*out);
+    behind_header(s, r, &*out, disk)
+}
+
+fn behind_name(s: Session, r: Named) -> Session {
+    match r {
+        Named::Number(w, _) => with_writer(s, w, s.disk),
+        Named::Refused(_) => s,
+    }
+}
+
+fn add_name(s: Session, room: usize, name: &[u8], dictionary: &mut [u8]) -> Session {
+    let w = s.writer;
+    let n = text::reach(&*dictionary, 0, room);
+    let r = w.add_name(&mut dictionary[..n], name);
+    answers::named(r);
+    behind_name(s, r)
+}
+
+// A name of up to 2,048 bytes, in hexadecimal.
+pub fn name(s: Session, room: usize, hex: &[u8], dictionary: &mut [u8]) -> Session {
+    let mut bytes = io::buffer();
+    let n = text::unhex(hex, &mut bytes);
+    add_name(s, room, &bytes[..n], dictionary)
+}
+
+// A name of so many letters, up to 65,536.
+pub fn long_name(s: Session, room: usize, len: usize, dictionary: &mut [u8]) -> Session {
+    let letters = [b'a'; 65536];
+    add_name(s, room, wire::part_at(&letters, 0, len), dictionary)
+}
+
+fn behind_entry(s: Session, r: Entered) -> Session {
+    match r {
+        Entered::Done(w) => with_writer(s, w, s.disk),
+        Entered::Refused(_) => s,
+    }
+}
+
+fn add_entry(
+    s: Session,
+    room: usize,
+    time: Epoch,
+    fields: [Field; 255],
+    count: usize,
+    text: &[u8],
+    payload: &mut [u8],
+) -> Session {
+    let w = s.writer;
+    let n = text::reach(&*payload, 0, room);
+    let r = w.add_entry(&mut payload[..n], time, fields, count, text);
+    answers::entered(r);
+    behind_entry(s, r)
+}
+
+// Nulls of name 0.
+fn nulls() -> [Field; 255] {
+    let null = Field {
+        id: 0,
+        value: Value::Null,
+    };
+    [null; 255]
+}
+
+// The fields behind a count, as many as can be read.
+fn fields_in(entry: &[u8]) -> [Field; 255] {
+    let mut fields = nulls();
+    let mut at: usize = 1;
+    let mut i = 0;
+    while i < 255 {
+        let c = Cursor { at };
+        let step = c.field(entry, 65535);
+        match step {
+            FieldStep::Refused(_) => {
+                return fields;
+            }
+            FieldStep::Field(f, next) => {
+                fields[i] = f;
+                at = next.at;
+                i += 1;
+            }
+        }
+    }
+    fields
+}
+
+// An entry's count and fields, in hexadecimal; they are lent as the text that its fields have their texts in.
+pub fn entry(s: Session, room: usize, time: u64, hex: &[u8], payload: &mut [u8]) -> Session {
+    let mut bytes = io::buffer();
+    let n = text::unhex(hex, &mut bytes);
+    let count = wire::u8_at(&bytes[..n], 0) as usize;
+    let fields = fields_in(&bytes[..n]);
+    add_entry(s, room, Epoch(time), fields, count, &bytes[..n], payload)
+}
+
+// An entry that claims so many fields.
+pub fn entry_count(
+    s: Session,
+    room: usize,
+    time: u64,
+    count: usize,
+    payload: &mut [u8],
+) -> Session {
+    add_entry(s, room, Epoch(time), nulls(), count, b"", payload)
+}
+
+// An entry of one field, a string at a place in a text.
+pub fn entry_part(
+    s: Session,
+    room: usize,
+    time: u64,
+    field: Field,
+    hex: &[u8],
+    payload: &mut [u8],
+) -> Session {
+    let mut bytes = io::buffer();
+    let n = text::unhex(hex, &mut bytes);
+    let mut fields = nulls();
+    fields[0] = field;
+    add_entry(s, room, Epoch(time), fields, 1, &bytes[..n], payload)
+}
+
+// What a block takes beside its bytes.
+pub struct Adding {
+    pub rows: usize,
+    pub room: usize,
+    pub start: Epoch,
+    pub names: u32,
+}
+
+fn add_block(
+    w: Writer,
+    a: Adding,
+    plain: &[u8],
+    stored: &[u8],
+    table: &mut [u8],
+    out: &mut [u8],
+) -> Stored {
+    let start = a.start;
+    let n = text::reach(&*table, 0, a.rows);
+    let k = text::reach(&*out, 0, a.room);
+    w.add_block(
+        &mut table[..n],
+        &mut out[..k],
+        start,
+        plain,
+        stored,
+        a.names,
+    )
+}
+
+// A block with plain and stored bytes in hexadecimal.
+pub fn block(
+    s: Session,
+    a: Adding,
+    plain: &[u8],
+    stored: &[u8],
+    table: &mut [u8],
+    out: &mut [u8],
+    disk: &mut [u8],
+) -> Session {
+    let w = s.writer;
+    let mut p = io::buffer();
+    let n = text::unhex(plain, &mut p);
+    let mut q = io::buffer();
+    let k = text::unhex(stored, &mut q);
+    let r = add_block(w, a, &p[..n], &q[..k], table, out);
+    answers::stored(r, &*out);
+    behind_block(s, r, &*out, disk)
+}
+
+// A block of one entry of no fields, as early as may be, with all that is lent.
+fn small_block(w: Writer, table: &mut [u8], out: &mut [u8]) -> Stored {
+    let end = w.end;
+    w.add_block(table, out, end, b"\x00\x00", b"\x00", w.given)
+}
+
+// So many small blocks, of which only the last one's answer is printed.
+pub fn blocks(s: Session, n: usize, table: &mut [u8], out: &mut [u8], disk: &mut [u8]) -> Session {
+    let mut next = s;
+    let mut i = 1;
+    while i < n {
+        let w = next.writer;
+        let r = small_block(w, table, out);
+        next = behind_block(next, r, &*out, disk);
+        i += 1;
+    }
+    let w = next.writer;
+    let r = small_block(w, table, out);
+    answers::stored(r, &*out);
+    behind_block(next, r, &*out, disk)
+}
+
+// Closing with a plain and a stored dictionary in hexadecimal.
+pub fn close(
+    s: Session,
+    room: usize,
+    plain: &[u8],
+    stored: &[u8],
+    table: &[u8],
+    out: &mut [u8],
+    disk: &mut [u8],
+) -> Session {
+    let w = s.writer;
+    let mut p = io::buffer();
+    let n = text::unhex(plain, &mut p);
+    let mut q = io::buffer();
+    let k = text::unhex(stored, &mut q);
+    let m = text::reach(&*out, 0, room);
+    let r = w.close(table, &mut out[..m], &p[..n], &q[..k]);
+    answers::stored(r, &*out);
+    behind_closing(s, r, &*out, disk)
+}
+
+// The writer's state, and the CRC-32 of each of the lent buffers.
+pub fn state(s: Session, dictionary: &[u8], payload: &[u8], table: &[u8], out: &[u8]) {
+    let w = s.writer;
+    answers::state(w);
+    answers::sum(dictionary);
+    answers::sum(payload);
+    answers::sum(table);
+    answers::sum(out);
+    answers::end_line();
+}
