@@ -28,15 +28,17 @@ fn table_sum(table: &[u8]) {
 }
 
 pub fn read(c: Reading, line: &[u8], f: &[u8], table: &mut [u8]) {
+    let n = number(line, 1);
+    let all = rows::STRIDE * 4096;
     match c {
-        Reading::Open => reading::open_in(f, table, 114_688),
-        Reading::OpenIn => reading::open_in(f, table, size(line, 1)),
-        Reading::Recover => reading::recover_in(f, table, 114_688),
-        Reading::RecoverIn => reading::recover_in(f, table, size(line, 1)),
+        Reading::Open => reading::open_in(f, table, all),
+        Reading::OpenIn => reading::open_in(f, table, n as usize),
+        Reading::Recover => reading::recover_in(f, table, all),
+        Reading::RecoverIn => reading::recover_in(f, table, n as usize),
         Reading::Glance => reading::glance(f, table),
         Reading::Cuts => reading::cuts(f, table),
-        Reading::Stored => reading::stored(f, table, number(line, 1)),
-        Reading::StoredAt => reading::stored_at(f, number(line, 1), number32(line, 2)),
+        Reading::Stored => reading::stored(f, table, n),
+        Reading::StoredAt => reading::stored_at(f, n, number32(line, 2)),
         Reading::Dictionary => reading::dictionary(f, table),
         Reading::Table => table_sum(&*table),
         Reading::Unknown => answers::say(b"no such command\n"),
@@ -74,12 +76,14 @@ pub fn file(
     disk: &[u8],
     table: &mut [u8],
 ) -> Session {
+    let from = size(line, 1);
+    let to = size(line, 2);
     match c {
         Filing::File => append(s, line, file, 0),
         Filing::Append => append(s, line, file, s.file),
         Filing::Reopen => reopen(s, file, disk),
         Filing::Flips => {
-            reading::flips(file, s.file, size(line, 1), size(line, 2), table);
+            reading::flips(file, s.file, from, to, table);
             s
         }
         Filing::Disk => {
@@ -114,16 +118,14 @@ pub fn enter(
     payload: &mut [u8],
 ) -> Session {
     let room = size(line, 1);
+    let second = number(line, 2);
     match c {
         Entering::Name => writing::name(s, room, text::word(line, 2), dictionary),
-        Entering::LongName => writing::long_name(s, room, size(line, 2), dictionary),
-        Entering::Entry => writing::entry(s, room, number(line, 2), text::word(line, 3), payload),
-        Entering::EntryCount => {
-            writing::entry_count(s, room, number(line, 2), size(line, 3), payload)
-        }
+        Entering::LongName => writing::long_name(s, room, second as usize, dictionary),
+        Entering::Entry => writing::entry(s, room, second, text::word(line, 3), payload),
+        Entering::EntryCount => writing::entry_count(s, room, second, size(line, 3), payload),
         Entering::EntryPart => {
-            let hex = text::word(line, 6);
-            writing::entry_part(s, room, number(line, 2), part(line), hex, payload)
+            writing::entry_part(s, room, second, part(line), text::word(line, 6), payload)
         }
     }
 }
@@ -148,11 +150,12 @@ pub fn store(
     out: &mut [u8],
     disk: &mut [u8],
 ) -> Session {
+    let n = size(line, 1);
     match c {
         Storing::New => writing::start(s),
-        Storing::Begin => writing::begin(s, size(line, 1), out, disk),
+        Storing::Begin => writing::begin(s, n, out, disk),
         Storing::Block => block(line, s, table, out, disk),
-        Storing::Blocks => writing::blocks(s, size(line, 1), table, out, disk),
+        Storing::Blocks => writing::blocks(s, n, table, out, disk),
         Storing::Close => close(line, s, &*table, out, disk),
     }
 }

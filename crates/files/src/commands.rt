@@ -51,111 +51,76 @@ pub enum Command {
     Nothing,
 }
 
-fn named_part(name: &[u8]) -> Reading {
-    if wire::equal(name, b"stored") {
-        return Reading::Stored;
+// The number of a name among names with a space between them, or 32.
+fn place(names: &[u8], name: &[u8]) -> usize {
+    let mut i = 0;
+    while i < 32 {
+        if wire::equal(text::word(names, i), name) {
+            return i;
+        }
+        i += 1;
     }
-    if wire::equal(name, b"stored-at") {
-        return Reading::StoredAt;
-    }
-    if wire::equal(name, b"dictionary") {
-        return Reading::Dictionary;
-    }
-    if wire::equal(name, b"table") {
-        return Reading::Table;
-    }
-    Reading::Unknown
+    i
 }
 
 fn named_reading(name: &[u8]) -> Reading {
-    if wire::equal(name, b"open") {
-        return Reading::Open;
+    let names = b"open open-in recover recover-in glance cuts stored stored-at dictionary table";
+    match place(names, name) {
+        0 => Reading::Open,
+        1 => Reading::OpenIn,
+        2 => Reading::Recover,
+        3 => Reading::RecoverIn,
+        4 => Reading::Glance,
+        5 => Reading::Cuts,
+        6 => Reading::Stored,
+        7 => Reading::StoredAt,
+        8 => Reading::Dictionary,
+        9 => Reading::Table,
+        _ => Reading::Unknown,
     }
-    if wire::equal(name, b"open-in") {
-        return Reading::OpenIn;
-    }
-    if wire::equal(name, b"recover") {
-        return Reading::Recover;
-    }
-    if wire::equal(name, b"recover-in") {
-        return Reading::RecoverIn;
-    }
-    if wire::equal(name, b"glance") {
-        return Reading::Glance;
-    }
-    if wire::equal(name, b"cuts") {
-        return Reading::Cuts;
-    }
-    named_part(name)
 }
 
 fn named_filing(name: &[u8]) -> Command {
-    if wire::equal(name, b"file") {
-        return Command::File(Filing::File);
+    match place(b"file append flips reopen disk", name) {
+        0 => Command::File(Filing::File),
+        1 => Command::File(Filing::Append),
+        2 => Command::File(Filing::Flips),
+        3 => Command::File(Filing::Reopen),
+        4 => Command::File(Filing::Disk),
+        _ => Command::Read(named_reading(name)),
     }
-    if wire::equal(name, b"append") {
-        return Command::File(Filing::Append);
-    }
-    if wire::equal(name, b"flips") {
-        return Command::File(Filing::Flips);
-    }
-    if wire::equal(name, b"reopen") {
-        return Command::File(Filing::Reopen);
-    }
-    if wire::equal(name, b"disk") {
-        return Command::File(Filing::Disk);
-    }
-    Command::Read(named_reading(name))
 }
 
-fn named_end(name: &[u8]) -> Command {
-    if wire::equal(name, b"block") {
-        return Command::Store(Storing::Block);
+fn named_storing(name: &[u8]) -> Command {
+    match place(b"new begin block blocks close state", name) {
+        0 => Command::Store(Storing::New),
+        1 => Command::Store(Storing::Begin),
+        2 => Command::Store(Storing::Block),
+        3 => Command::Store(Storing::Blocks),
+        4 => Command::Store(Storing::Close),
+        5 => Command::State,
+        _ => named_filing(name),
     }
-    if wire::equal(name, b"blocks") {
-        return Command::Store(Storing::Blocks);
-    }
-    if wire::equal(name, b"close") {
-        return Command::Store(Storing::Close);
-    }
-    if wire::equal(name, b"state") {
-        return Command::State;
-    }
-    named_filing(name)
 }
 
-// Whether a line with this first word is passed over.
-fn is_nothing(name: &[u8]) -> bool {
-    if name.len() == 0 {
-        return true;
+fn named_entering(name: &[u8]) -> Command {
+    match place(b"name long-name entry entry-count entry-part", name) {
+        0 => Command::Enter(Entering::Name),
+        1 => Command::Enter(Entering::LongName),
+        2 => Command::Enter(Entering::Entry),
+        3 => Command::Enter(Entering::EntryCount),
+        4 => Command::Enter(Entering::EntryPart),
+        _ => named_storing(name),
     }
-    name[0] == b'#'
 }
 
+// The command with this first word; a line that starts with '#', or is empty, is none.
 pub fn named(name: &[u8]) -> Command {
-    if is_nothing(name) {
+    if name.len() == 0 {
         return Command::Nothing;
     }
-    if wire::equal(name, b"new") {
-        return Command::Store(Storing::New);
+    if name[0] == b'#' {
+        return Command::Nothing;
     }
-    if wire::equal(name, b"begin") {
-        return Command::Store(Storing::Begin);
-    }
-    if wire::equal(name, b"name") {
-        return Command::Enter(Entering::Name);
-    }
-    if wire::equal(name, b"long-name") {
-        return Command::Enter(Entering::LongName);
-    }
-    if wire::equal(name, b"entry") {
-        return Command::Enter(Entering::Entry);
-    }
-    if wire::equal(name, b"entry-count") {
-        return Command::Enter(Entering::EntryCount);
-    }
-    if wire::equal(name, b"entry-part") {
-        return Command::Enter(Entering::EntryPart);
-    }
-    named_end(name)
+    named_entering(name)
 }

@@ -280,20 +280,31 @@ fn small_block(w: Writer, table: &mut [u8], out: &mut [u8]) -> Stored {
     w.add_block(table, out, end, b"\x00\x00", b"\x00", w.given)
 }
 
+// One small block, whose answer is printed or not.
+fn add_small(
+    s: Session,
+    shown: bool,
+    table: &mut [u8],
+    out: &mut [u8],
+    disk: &mut [u8],
+) -> Session {
+    let w = s.writer;
+    let r = small_block(w, table, out);
+    if shown {
+        answers::stored(r, &*out);
+    }
+    behind_block(s, r, &*out, disk)
+}
+
 // So many small blocks, of which only the last one's answer is printed.
 pub fn blocks(s: Session, n: usize, table: &mut [u8], out: &mut [u8], disk: &mut [u8]) -> Session {
     let mut next = s;
-    let mut i = 1;
-    while i < n {
-        let w = next.writer;
-        let r = small_block(w, table, out);
-        next = behind_block(next, r, &*out, disk);
-        i += 1;
+    let mut left = n;
+    while 0 < left {
+        left -= 1;
+        next = add_small(next, left == 0, table, out, disk);
     }
-    let w = next.writer;
-    let r = small_block(w, table, out);
-    answers::stored(r, &*out);
-    behind_block(next, r, &*out, disk)
+    next
 }
 
 // Closing with a plain and a stored dictionary in hexadecimal.

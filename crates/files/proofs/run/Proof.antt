@@ -16,13 +16,14 @@ abbrev μ-loop : tie.MeasureT-loop
 
 loop-again : tie.Need-loop-again Inv-loop μ-loop
 loop-again c = let l = c .before .before .before .before .before .before .before .before .before .before .before .before .before .before .before .before .before .before .before .before .before .before .before .before .before .before .loop in (
-    omega (arith, c .before .before .before .before .before .before .before .before .before .before .before .before .before .before .file .given, l .inv),
-    omega (arith, c .before .before .before .before .before .before .before .before .before .before .before .before .disk .given, l .inv),
-    omega (arith, c .before .before .before .before .before .before .before .before .before .before .found .given, l .inv),
-    omega (arith, c .before .before .before .before .before .before .before .before .dictionary .given, l .inv),
-    omega (arith, c .before .before .before .before .before .before .payload .given, l .inv),
-    omega (arith, c .before .before .before .before .table .given, l .inv),
-    omega (arith, c .before .before .out .given, l .inv))
+  omega (arith, c .before .before .before .before .before .before .before .before .before .before .before .before .before .before .file .given, l .inv),
+  omega (arith, c .before .before .before .before .before .before .before .before .before .before .before .before .disk .given, l .inv),
+  omega (arith, c .before .before .before .before .before .before .before .before .before .before .found .given, l .inv),
+  omega (arith, c .before .before .before .before .before .before .before .before .dictionary .given, l .inv),
+  omega (arith, c .before .before .before .before .before .before .payload .given, l .inv),
+  omega (arith, c .before .before .before .before .table .given, l .inv),
+  omega (arith, c .before .before .out .given, l .inv),
+)
 
 pub run-spec : {M : Type 1} → statement M
 run-spec =
