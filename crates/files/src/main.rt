@@ -2,7 +2,7 @@
 //
 // A line of standard input is a command and its words, with one space between them: numbers in decimal, bytes in hexadecimal ('-' for none).
 // Empty lines and those that start with '#' are passed over. Kept from line to line are a file, a writer with the bytes lent to it (a plain
-// dictionary of 4,096 bytes, the open block's plain bytes of 4,096, rows of 114,688, an output of 114,944), and a disk: headers are put at
+// dictionary of 4,096 bytes, the open block's plain bytes of 4,096, rows of 114,688, an output of 270,000), and a disk: headers are put at
 // its start and other stores at its end. ROOM is how much of a lent buffer is lent in that call. Commands and what they print:
 //   file HEX, append HEX         nothing: the bytes are the file, or come behind it
 //   open, open-in ROOM           log, D, stored size, index offset, blocks, first and last time; then a line for each row: start, end, offset, stored size
@@ -34,6 +34,8 @@ mod commands;
 mod reading;
 mod writing;
 
+ghost use mathlib.Core.Path.{_≡_};
+ghost use lib.ListN.{length};
 use commands::Command;
 use libc::STDIN_FILENO;
 use writing::Session;
@@ -88,16 +90,30 @@ fn run(
     }
 }
 
+// Zeros, for a file of 4,096 small blocks. The `ensures` gives only the length, so that the elements are looked at once for all callers.
+fn storage() -> [u8; 270000]
+    ensures { λ r. ⌜ 270000 ≡ length r ⌝ }
+{
+    [0; 270000]
+}
+
+// Zeros, for 4,096 rows.
+fn rows() -> [u8; 114688]
+    ensures { λ r. ⌜ 114688 ≡ length r ⌝ }
+{
+    [0; 114688]
+}
+
 fn main() {
-    let mut input = [0u8; 131072];
+    let mut input = storage();
     let n = io::read_full(STDIN_FILENO, &mut input);
-    let mut file = [0u8; 270000];
-    let mut disk = [0u8; 270000];
-    let mut found = [0xAAu8; 114688];
-    let mut dictionary = [0u8; 4096];
-    let mut payload = [0u8; 4096];
-    let mut table = [0u8; 114688];
-    let mut out = [0u8; 114944];
+    let mut file = storage();
+    let mut disk = storage();
+    let mut found = rows();
+    let mut dictionary = io::buffer();
+    let mut payload = io::buffer();
+    let mut table = rows();
+    let mut out = storage();
     run(
         &input[..n],
         &mut file,

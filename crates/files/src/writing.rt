@@ -307,6 +307,18 @@ pub fn blocks(s: Session, n: usize, table: &mut [u8], out: &mut [u8], disk: &mut
     next
 }
 
+fn close_with(
+    w: Writer,
+    room: usize,
+    plain: &[u8],
+    stored: &[u8],
+    table: &[u8],
+    out: &mut [u8],
+) -> Stored {
+    let n = text::reach(&*out, 0, room);
+    w.close(table, &mut out[..n], plain, stored)
+}
+
 // Closing with a plain and a stored dictionary in hexadecimal.
 pub fn close(
     s: Session,
@@ -322,8 +334,7 @@ pub fn close(
     let n = text::unhex(plain, &mut p);
     let mut q = io::buffer();
     let k = text::unhex(stored, &mut q);
-    let m = text::reach(&*out, 0, room);
-    let r = w.close(table, &mut out[..m], &p[..n], &q[..k]);
+    let r = close_with(w, room, &p[..n], &q[..k], table, out);
     answers::stored(r, &*out);
     behind_closing(s, r, &*out, disk)
 }
