@@ -11,6 +11,9 @@ use crate::writing::Session;
 use entries::Field;
 use entries::Value;
 use parts::Epoch;
+use parts::Header;
+use writer::Stored;
+use writer::Writer;
 
 // The number that a word of a line spells.
 fn number(line: &[u8], i: usize) -> u64 {
@@ -130,16 +133,33 @@ pub fn enter(
     }
 }
 
-fn block(line: &[u8], s: Session, table: &mut [u8], out: &mut [u8], disk: &mut [u8]) -> Session {
+fn block(line: &[u8], w: Writer, table: &mut [u8], out: &mut [u8]) -> Stored {
     let plain = text::word(line, 5);
     let stored = text::word(line, 6);
-    writing::block(s, adding(line), plain, stored, table, out, disk)
+    writing::block(w, adding(line), plain, stored, table, out)
 }
 
-fn close(line: &[u8], s: Session, table: &[u8], out: &mut [u8], disk: &mut [u8]) -> Session {
+fn close(line: &[u8], w: Writer, table: &[u8], out: &mut [u8]) -> Stored {
     let plain = text::word(line, 2);
     let stored = text::word(line, 3);
-    writing::close(s, size(line, 1), plain, stored, table, out, disk)
+    writing::close(w, size(line, 1), plain, stored, table, out)
+}
+
+fn call(c: Storing, line: &[u8], w: Writer, table: &mut [u8], out: &mut [u8]) -> Stored {
+    match c {
+        Storing::Begin => writing::begin(w, size(line, 1), out),
+        Storing::Block => block(line, w, table, out),
+        Storing::Close => close(line, w, &*table, out),
+    }
+}
+
+// How long the header is that a call's stores start with.
+fn header(c: Storing) -> usize {
+    match c {
+        Storing::Begin => Header::LEN,
+        Storing::Block => 0,
+        Storing::Close => Header::LEN,
+    }
 }
 
 pub fn store(
@@ -150,12 +170,18 @@ pub fn store(
     out: &mut [u8],
     disk: &mut [u8],
 ) -> Session {
-    let n = size(line, 1);
-    match c {
-        Storing::New => writing::start(s),
-        Storing::Begin => writing::begin(s, n, out, disk),
-        Storing::Block => block(line, s, table, out, disk),
-        Storing::Blocks => writing::blocks(s, n, table, out, disk),
-        Storing::Close => close(line, s, &*table, out, disk),
-    }
+    let w = s.writer;
+    let r = call(c, line, w, table, out);
+    answers::stored(r, &*out);
+    writing::behind(s, r, header(c), &*out, disk)
+}
+
+pub fn blocks(
+    line: &[u8],
+    s: Session,
+    table: &mut [u8],
+    out: &mut [u8],
+    disk: &mut [u8],
+) -> Session {
+    writing::blocks(s, size(line, 1), table, out, disk)
 }

@@ -35,10 +35,8 @@ pub enum Entering {
 
 // The writer's calls that store.
 pub enum Storing {
-    New,
     Begin,
     Block,
-    Blocks,
     Close,
 }
 
@@ -47,6 +45,8 @@ pub enum Command {
     File(Filing),
     Enter(Entering),
     Store(Storing),
+    New,
+    Blocks,
     State,
     Nothing,
 }
@@ -93,10 +93,10 @@ fn named_filing(name: &[u8]) -> Command {
 
 fn named_storing(name: &[u8]) -> Command {
     match place(b"new begin block blocks close state", name) {
-        0 => Command::Store(Storing::New),
+        0 => Command::New,
         1 => Command::Store(Storing::Begin),
         2 => Command::Store(Storing::Block),
-        3 => Command::Store(Storing::Blocks),
+        3 => Command::Blocks,
         4 => Command::Store(Storing::Close),
         5 => Command::State,
         _ => named_filing(name),

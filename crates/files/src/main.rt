@@ -61,6 +61,8 @@ fn follow(
         Command::File(f) => calls::file(f, line, s, file, &*disk, found),
         Command::Enter(e) => calls::enter(e, line, s, dictionary, payload),
         Command::Store(t) => calls::store(t, line, s, table, out, disk),
+        Command::Blocks => calls::blocks(line, s, table, out, disk),
+        Command::New => writing::start(s),
         Command::State => {
             writing::state(s, &*dictionary, &*payload, &*table, &*out);
             s

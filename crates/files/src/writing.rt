@@ -5,7 +5,6 @@ use entries::Field;
 use entries::FieldStep;
 use entries::Value;
 use parts::Epoch;
-use parts::Header;
 use writer::Entered;
 use writer::Named;
 use writer::Stored;
@@ -49,62 +48,32 @@ pub fn start(s: Session) -> Session {
     with_writer(s, Writer::new(), 0)
 }
 
-// Puts a store at the disk's end.
-fn append(disk: &mut [u8], end: usize, store: &[u8]) -> usize {
-    wire::copy_at(disk, end, store);
-    text::reach(&*disk, end, store.len())
-}
-
-// Puts a header at the disk's start.
-fn put_header(disk: &mut [u8], end: usize, out: &[u8]) -> usize {
-    wire::copy_at(disk, 0, wire::part_at(out, 0, Header::LEN));
-    if end < Header::LEN {
-        return Header::LEN;
+// Puts stores on a disk, the header that they start with, if any, at its start and the rest at its end; says where it ends then.
+fn put_stores(disk: &mut [u8], end: usize, header: usize, stores: &[u8]) -> usize {
+    let first = wire::part_at(stores, 0, header);
+    let rest = wire::part_at(stores, header, stores.len());
+    wire::copy_at(disk, 0, first);
+    if end < header {
+        return text::with(disk, header, rest);
     }
-    end
+    text::with(disk, end, rest)
 }
 
-// The session behind a call that stored a header.
-fn behind_header(s: Session, r: Stored, out: &[u8], disk: &mut [u8]) -> Session {
-    match r {
-        Stored::Refused(_) => s,
-        Stored::Done(w, _) => {
-            let end = put_header(disk, s.disk, out);
-            with_writer(s, w, end)
-        }
-    }
-}
-
-// The session behind a call that stored a block.
-fn behind_block(s: Session, r: Stored, out: &[u8], disk: &mut [u8]) -> Session {
+// The session behind a call whose stores start with a header of so many bytes.
+pub fn behind(s: Session, r: Stored, header: usize, out: &[u8], disk: &mut [u8]) -> Session {
     match r {
         Stored::Refused(_) => s,
         Stored::Done(w, size) => {
-            let end = append(disk, s.disk, wire::part_at(out, 0, size as usize));
-            with_writer(s, w, end)
-        }
-    }
-}
-
-// The session behind a call that stored a header and what stands behind the blocks.
-fn behind_closing(s: Session, r: Stored, out: &[u8], disk: &mut [u8]) -> Session {
-    match r {
-        Stored::Refused(_) => s,
-        Stored::Done(w, size) => {
-            let end = put_header(disk, s.disk, out);
             let stores = wire::part_at(out, 0, size as usize);
-            let next = append(disk, end, wire::part_at(stores, Header::LEN, stores.len()));
-            with_writer(s, w, next)
+            let end = put_stores(disk, s.disk, header, stores);
+            with_writer(s, w, end)
         }
     }
 }
 
-pub fn begin(s: Session, room: usize, out: &mut [u8], disk: &mut [u8]) -> Session {
-    let w = s.writer;
+pub fn begin(w: Writer, room: usize, out: &mut [u8]) -> Stored {
     let n = text::reach(&*out, 0, room);
-    let r = w.begin(&mut out[..n]);
-    answers::stored(r, &*out);
-    behind_header(s, r, &*out, disk)
+    w.begin(&mut out[..n])
 }
 
 fn behind_name(s: Session, r: Named) -> Session {
@@ -256,22 +225,18 @@ fn add_block(
 
 // A block with plain and stored bytes in hexadecimal.
 pub fn block(
-    s: Session,
+    w: Writer,
     a: Adding,
     plain: &[u8],
     stored: &[u8],
     table: &mut [u8],
     out: &mut [u8],
-    disk: &mut [u8],
-) -> Session {
-    let w = s.writer;
+) -> Stored {
     let mut p = io::buffer();
     let n = text::unhex(plain, &mut p);
     let mut q = io::buffer();
     let k = text::unhex(stored, &mut q);
-    let r = add_block(w, a, &p[..n], &q[..k], table, out);
-    answers::stored(r, &*out);
-    behind_block(s, r, &*out, disk)
+    add_block(w, a, &p[..n], &q[..k], table, out)
 }
 
 // A block of one entry of no fields, as early as may be, with all that is lent.
@@ -293,7 +258,7 @@ fn add_small(
     if shown {
         answers::stored(r, &*out);
     }
-    behind_block(s, r, &*out, disk)
+    behind(s, r, 0, &*out, disk)
 }
 
 // So many small blocks, of which only the last one's answer is printed.
@@ -321,22 +286,18 @@ fn close_with(
 
 // Closing with a plain and a stored dictionary in hexadecimal.
 pub fn close(
-    s: Session,
+    w: Writer,
     room: usize,
     plain: &[u8],
     stored: &[u8],
     table: &[u8],
     out: &mut [u8],
-    disk: &mut [u8],
-) -> Session {
-    let w = s.writer;
+) -> Stored {
     let mut p = io::buffer();
     let n = text::unhex(plain, &mut p);
     let mut q = io::buffer();
     let k = text::unhex(stored, &mut q);
-    let r = close_with(w, room, &p[..n], &q[..k], table, out);
-    answers::stored(r, &*out);
-    behind_closing(s, r, &*out, disk)
+    close_with(w, room, &p[..n], &q[..k], table, out)
 }
 
 // The writer's state, and the CRC-32 of each of the lent buffers.
