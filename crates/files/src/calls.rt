@@ -43,6 +43,7 @@ pub fn read(c: Reading, line: &[u8], f: &[u8], table: &mut [u8]) {
         Reading::Stored => reading::stored(f, table, n),
         Reading::StoredAt => reading::stored_at(f, n, number32(line, 2)),
         Reading::Dictionary => reading::dictionary(f, table),
+        Reading::Bytes => answers::bytes_line(f),
         Reading::Table => table_sum(&*table),
         Reading::Unknown => answers::say(b"no such command\n"),
     }
@@ -60,37 +61,21 @@ fn put(line: &[u8], file: &mut [u8], at: usize) -> usize {
     text::with(file, at, &bytes[..n])
 }
 
-// Makes the disk the file.
-fn reopen(s: Session, file: &mut [u8], disk: &[u8]) -> Session {
-    let n = text::with(file, 0, wire::part_at(disk, 0, s.disk));
-    writing::with_file(s, n)
-}
-
 fn append(s: Session, line: &[u8], file: &mut [u8], at: usize) -> Session {
     let n = put(line, file, at);
-    writing::with_file(s, n)
+    writing::with_len(s, n)
 }
 
-pub fn file(
-    c: Filing,
-    line: &[u8],
-    s: Session,
-    file: &mut [u8],
-    disk: &[u8],
-    table: &mut [u8],
-) -> Session {
-    let from = size(line, 1);
-    let to = size(line, 2);
+fn flips(line: &[u8], file: &mut [u8], n: usize, table: &mut [u8]) {
+    reading::flips(file, n, size(line, 1), size(line, 2), table);
+}
+
+pub fn file(c: Filing, line: &[u8], s: Session, file: &mut [u8], table: &mut [u8]) -> Session {
     match c {
         Filing::File => append(s, line, file, 0),
-        Filing::Append => append(s, line, file, s.file),
-        Filing::Reopen => reopen(s, file, disk),
+        Filing::Append => append(s, line, file, s.len),
         Filing::Flips => {
-            reading::flips(file, s.file, from, to, table);
-            s
-        }
-        Filing::Disk => {
-            answers::bytes_line(wire::part_at(disk, 0, s.disk));
+            flips(line, file, s.len, table);
             s
         }
     }
@@ -168,12 +153,12 @@ pub fn store(
     s: Session,
     table: &mut [u8],
     out: &mut [u8],
-    disk: &mut [u8],
+    file: &mut [u8],
 ) -> Session {
     let w = s.writer;
     let r = call(c, line, w, table, out);
     answers::stored(r, &*out);
-    writing::behind(s, r, header(c), &*out, disk)
+    writing::behind(s, r, header(c), &*out, file)
 }
 
 pub fn blocks(
@@ -181,7 +166,7 @@ pub fn blocks(
     s: Session,
     table: &mut [u8],
     out: &mut [u8],
-    disk: &mut [u8],
+    file: &mut [u8],
 ) -> Session {
-    writing::blocks(s, size(line, 1), table, out, disk)
+    writing::blocks(s, size(line, 1), table, out, file)
 }

@@ -11,17 +11,16 @@ pub enum Reading {
     Stored,
     StoredAt,
     Dictionary,
+    Bytes,
     Table,
     Unknown,
 }
 
-// On the file's own bytes, and on the disk's.
+// On the file's own bytes.
 pub enum Filing {
     File,
     Append,
     Flips,
-    Reopen,
-    Disk,
 }
 
 // The writer's calls that hand out no bytes.
@@ -64,7 +63,8 @@ fn place(names: &[u8], name: &[u8]) -> usize {
 }
 
 fn named_reading(name: &[u8]) -> Reading {
-    let names = b"open open-in recover recover-in glance cuts stored stored-at dictionary table";
+    let names =
+        b"open open-in recover recover-in glance cuts stored stored-at dictionary bytes table";
     match place(names, name) {
         0 => Reading::Open,
         1 => Reading::OpenIn,
@@ -75,18 +75,17 @@ fn named_reading(name: &[u8]) -> Reading {
         6 => Reading::Stored,
         7 => Reading::StoredAt,
         8 => Reading::Dictionary,
-        9 => Reading::Table,
+        9 => Reading::Bytes,
+        10 => Reading::Table,
         _ => Reading::Unknown,
     }
 }
 
 fn named_filing(name: &[u8]) -> Command {
-    match place(b"file append flips reopen disk", name) {
+    match place(b"file append flips", name) {
         0 => Command::File(Filing::File),
         1 => Command::File(Filing::Append),
         2 => Command::File(Filing::Flips),
-        3 => Command::File(Filing::Reopen),
-        4 => Command::File(Filing::Disk),
         _ => Command::Read(named_reading(name)),
     }
 }

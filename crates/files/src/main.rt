@@ -1,9 +1,9 @@
 // Runs cases of whole files against the compiled library.
 //
 // A line of standard input is a command and its words, with one space between them: numbers in decimal, bytes in hexadecimal ('-' for none).
-// Empty lines and those that start with '#' are passed over. Kept from line to line are a file, a writer with the bytes lent to it (a plain
-// dictionary of 4,096 bytes, the open block's plain bytes of 4,096, rows of 114,688, an output of 270,000), and a disk: headers are put at
-// its start and other stores at its end. ROOM is how much of a lent buffer is lent in that call. Commands and what they print:
+// Empty lines and those that start with '#' are passed over. Kept from line to line are a file and a writer with the bytes lent to it: a plain
+// dictionary of 4,096 bytes, the open block's plain bytes of 4,096, rows of 114,688, an output of 270,000. What the writer stores is put in the
+// file, headers at its start and other stores at its end. ROOM is how much of a lent buffer is lent in that call. Commands and what they print:
 //   file HEX, append HEX         nothing: the bytes are the file, or come behind it
 //   open, open-in ROOM           log, D, stored size, index offset, blocks, first and last time; then a line for each row: start, end, offset, stored size
 //   recover, recover-in ROOM     found, blocks, the end of the last, the number and place that stopped it, whole or none; then the rows
@@ -13,7 +13,8 @@
 //   flips A B                    the same with the byte at each offset from A up to B one more, behind the offset
 //   stored I, dictionary         the stored bytes of block I or of the dictionary of the file
 //   stored-at OFFSET SIZE        the stored bytes by a row that says so
-//   new                          nothing: a new writer and an empty disk
+//   bytes                        the file's bytes, up to 2,048
+//   new                          nothing: a new writer and an empty file
 //   begin ROOM                   done, how many bytes were stored and the first 200 of them
 //   name ROOM HEX                number, and the name's number
 //   long-name ROOM LENGTH        the same of a name of so many letters, up to 65,536
@@ -25,8 +26,6 @@
 //   close ROOM PLAIN STORED      as begin
 //   state                        turn, blocks, length, end, names given, names held, length of the dictionary, the open block's start, last time
 //                                and length; then the CRC-32 of each of the writer's four buffers
-//   disk                         the disk's bytes, up to 2,048
-//   reopen                       nothing: the disk is the file
 // A refusal is printed as refused, its number and its place.
 mod answers;
 mod calls;
@@ -45,7 +44,6 @@ fn follow(
     line: &[u8],
     s: Session,
     file: &mut [u8],
-    disk: &mut [u8],
     found: &mut [u8],
     dictionary: &mut [u8],
     payload: &mut [u8],
@@ -55,14 +53,14 @@ fn follow(
     let c = commands::named(text::word(line, 0));
     match c {
         Command::Read(r) => {
-            calls::read(r, line, wire::part_at(&*file, 0, s.file), found);
+            calls::read(r, line, wire::part_at(&*file, 0, s.len), found);
             s
         }
-        Command::File(f) => calls::file(f, line, s, file, &*disk, found),
+        Command::File(f) => calls::file(f, line, s, file, found),
         Command::Enter(e) => calls::enter(e, line, s, dictionary, payload),
-        Command::Store(t) => calls::store(t, line, s, table, out, disk),
-        Command::Blocks => calls::blocks(line, s, table, out, disk),
-        Command::New => writing::start(s),
+        Command::Store(t) => calls::store(t, line, s, table, out, file),
+        Command::Blocks => calls::blocks(line, s, table, out, file),
+        Command::New => writing::at_first(),
         Command::State => {
             writing::state(s, &*dictionary, &*payload, &*table, &*out);
             s
@@ -75,7 +73,6 @@ fn follow(
 fn run(
     input: &[u8],
     file: &mut [u8],
-    disk: &mut [u8],
     found: &mut [u8],
     dictionary: &mut [u8],
     payload: &mut [u8],
@@ -87,7 +84,7 @@ fn run(
     while at < input.len() {
         let end = text::find(input, at, b'\n');
         let line = &input[at..end];
-        s = follow(line, s, file, disk, found, dictionary, payload, table, out);
+        s = follow(line, s, file, found, dictionary, payload, table, out);
         at = text::past(input, end);
     }
 }
@@ -110,7 +107,6 @@ fn main() {
     let mut input = storage();
     let n = io::read_full(STDIN_FILENO, &mut input);
     let mut file = storage();
-    let mut disk = storage();
     let mut found = rows();
     let mut dictionary = io::buffer();
     let mut payload = io::buffer();
@@ -119,7 +115,6 @@ fn main() {
     run(
         &input[..n],
         &mut file,
-        &mut disk,
         &mut found,
         &mut dictionary,
         &mut payload,

@@ -1,4 +1,4 @@
-// The writer's calls, with the bytes that are lent to it, and the disk that its stores are put on.
+// The writer's calls, with the bytes that are lent to it, and the file that its stores are put in.
 use crate::answers;
 use entries::Cursor;
 use entries::Field;
@@ -10,63 +10,45 @@ use writer::Named;
 use writer::Stored;
 use writer::Writer;
 
-// What is kept from line to line, beside the lent bytes: the writer, and the lengths of the file and of the disk.
+// What is kept from line to line, beside the lent bytes: the writer, and the length of the file.
 pub struct Session {
     pub writer: Writer,
-    pub file: usize,
-    pub disk: usize,
+    pub len: usize,
 }
 
 pub fn at_first() -> Session {
     let writer = Writer::new();
-    Session {
-        writer,
-        file: 0,
-        disk: 0,
-    }
+    Session { writer, len: 0 }
 }
 
-fn with_writer(s: Session, writer: Writer, disk: usize) -> Session {
-    Session {
-        writer,
-        file: s.file,
-        disk,
-    }
+fn with_writer(s: Session, writer: Writer) -> Session {
+    Session { writer, len: s.len }
 }
 
-pub fn with_file(s: Session, file: usize) -> Session {
+pub fn with_len(s: Session, len: usize) -> Session {
     let writer = s.writer;
-    Session {
-        writer,
-        file,
-        disk: s.disk,
-    }
+    Session { writer, len }
 }
 
-// A new writer, and an empty disk.
-pub fn start(s: Session) -> Session {
-    with_writer(s, Writer::new(), 0)
-}
-
-// Puts stores on a disk, the header that they start with, if any, at its start and the rest at its end; says where it ends then.
-fn put_stores(disk: &mut [u8], end: usize, header: usize, stores: &[u8]) -> usize {
+// Puts stores in a file, the header that they start with, if any, at its start and the rest at its end; says where it ends then.
+fn put_stores(file: &mut [u8], end: usize, header: usize, stores: &[u8]) -> usize {
     let first = wire::part_at(stores, 0, header);
     let rest = wire::part_at(stores, header, stores.len());
-    wire::copy_at(disk, 0, first);
+    wire::copy_at(file, 0, first);
     if end < header {
-        return text::with(disk, header, rest);
+        return text::with(file, header, rest);
     }
-    text::with(disk, end, rest)
+    text::with(file, end, rest)
 }
 
 // The session behind a call whose stores start with a header of so many bytes.
-pub fn behind(s: Session, r: Stored, header: usize, out: &[u8], disk: &mut [u8]) -> Session {
+pub fn behind(s: Session, r: Stored, header: usize, out: &[u8], file: &mut [u8]) -> Session {
     match r {
         Stored::Refused(_) => s,
         Stored::Done(w, size) => {
             let stores = wire::part_at(out, 0, size as usize);
-            let end = put_stores(disk, s.disk, header, stores);
-            with_writer(s, w, end)
+            let len = put_stores(file, s.len, header, stores);
+            Session { writer: w, len }
         }
     }
 }
@@ -78,7 +60,7 @@ pub fn begin(w: Writer, room: usize, out: &mut [u8]) -> Stored {
 
 fn behind_name(s: Session, r: Named) -> Session {
     match r {
-        Named::Number(w, _) => with_writer(s, w, s.disk),
+        Named::Number(w, _) => with_writer(s, w),
         Named::Refused(_) => s,
     }
 }
@@ -106,7 +88,7 @@ pub fn long_name(s: Session, room: usize, len: usize, dictionary: &mut [u8]) -> 
 
 fn behind_entry(s: Session, r: Entered) -> Session {
     match r {
-        Entered::Done(w) => with_writer(s, w, s.disk),
+        Entered::Done(w) => with_writer(s, w),
         Entered::Refused(_) => s,
     }
 }
@@ -251,23 +233,23 @@ fn add_small(
     shown: bool,
     table: &mut [u8],
     out: &mut [u8],
-    disk: &mut [u8],
+    file: &mut [u8],
 ) -> Session {
     let w = s.writer;
     let r = small_block(w, table, out);
     if shown {
         answers::stored(r, &*out);
     }
-    behind(s, r, 0, &*out, disk)
+    behind(s, r, 0, &*out, file)
 }
 
 // So many small blocks, of which only the last one's answer is printed.
-pub fn blocks(s: Session, n: usize, table: &mut [u8], out: &mut [u8], disk: &mut [u8]) -> Session {
+pub fn blocks(s: Session, n: usize, table: &mut [u8], out: &mut [u8], file: &mut [u8]) -> Session {
     let mut next = s;
     let mut left = n;
     while 0 < left {
         left -= 1;
-        next = add_small(next, left == 0, table, out, disk);
+        next = add_small(next, left == 0, table, out, file);
     }
     next
 }
