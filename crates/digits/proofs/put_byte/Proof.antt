@@ -1,0 +1,34 @@
+use mathlib.Core.Path.{_∙_, ap, sym}
+use mathlib.Core.Bool.{Bool}
+use borrow.Author.Needs.{needs}
+use Rattle.wire.specs.Wire.{splice}
+use Rattle.digits.specs.Digits.{byteOf}
+use Rattle.digits.proofs.Hex.{hex-byte, shown-byte}
+use Rattle.digits.proofs.put_byte.Statement.{statement}
+use Rattle.digits.proofs.put_byte.Tie as tie
+
+returns : tie.Need-returns
+returns c =
+    let p = c .before .before in
+    let t = p .before .before .before in
+    let a = t .before .before .args in
+    p .copy-at .ensures ∙ ap (splice (a .out .now) (a .at)) (shown-byte (a .b) ∙ ap (λ (s : Bool). byteOf s (a .b)) (sym (t .if1 .taken)))
+
+returns-2 : tie.Need-returns-2
+returns-2 c =
+    let p = c .before .before in
+    let h = p .before .before in
+    let t = h .before .before .before in
+    let a = t .before .before .args in
+    p .copy-at2 .ensures
+    ∙ ap (splice (a .out .now) (a .at))
+    (hex-byte (a .b) _ _ (search needs) (h .before .hex-digit .ensures) (h .hex-digit2 .ensures) ∙ ap (λ (s : Bool). byteOf s (a .b)) (sym (t .if1 .left)))
+
+pub put-byte-spec : {M : Type 1} → statement M
+put-byte-spec =
+    tie.close
+    (tie.spec
+    (λ c. search needs) (λ c κs. search needs) (λ c. search needs)
+    returns
+    (λ c κs. search needs) (λ c κs. search needs) (λ c. search needs) (λ c κs. search needs) (λ c. search needs)
+    returns-2)

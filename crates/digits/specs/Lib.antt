@@ -1,0 +1,2 @@
+-- The definitions of numbers and bytes as text. Assumes nothing.
+pub mod Digits

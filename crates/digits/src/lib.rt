@@ -1,0 +1,158 @@
+// Numbers and bytes as text. What lies past the end of the output isn't written.
+ghost use mathlib.Core.Path.{_≡_};
+ghost use mathlib.Core.List.{[], _∷_};
+ghost use Prim.Native.Nat.{_+_, _≤_, _<_};
+ghost use lib.ListN.{length, drop};
+ghost use Rattle.wire.specs.Wire.{splice};
+ghost use Rattle.digits.specs.Digits.{decimalOf, magnitudeOf, signedOf, hexDigit, hexOf, shownInText, shownInName, byteOf, byteLen};
+
+// The digits of a number at the end of a buffer, and where they begin.
+fn fill(digits: &mut [u8], n: u64) -> usize
+    requires { ⌜ length (now digits) ≡ 20 ⌝ }
+    ensures { λ r. ⌜ (r ≤ 20) × (drop r (now (digits .exit)) ≡ decimalOf n) ⌝ }
+{
+    let mut i: usize = 20;
+    let mut x = n;
+    while 10 <= x {
+        i -= 1;
+        digits[i] = 0x30 + (x % 10) as u8;
+        x /= 10;
+    }
+    i -= 1;
+    digits[i] = 0x30 + x as u8;
+    i
+}
+
+// How many digits a number takes.
+pub fn decimal_len(n: u64) -> usize
+    ensures { λ r. ⌜ r ≡ length (decimalOf n) ⌝ }
+{
+    let mut digits = [0u8; 20];
+    20 - fill(&mut digits, n)
+}
+
+pub fn put_decimal(out: &mut [u8], at: usize, n: u64)
+    ensures { λ _. ⌜ now (out .exit) ≡ splice (now (out .entry)) at (decimalOf n) ⌝ }
+{
+    let mut digits = [0u8; 20];
+    let from = fill(&mut digits, n);
+    wire::copy_at(out, at, &digits[from..]);
+}
+
+// A number without its sign.
+fn magnitude(z: i64) -> u64
+    ensures { λ r. ⌜ r ≡ magnitudeOf z ⌝ }
+{
+    if z < 0 {
+        return (-1 - z) as u64 + 1;
+    }
+    z as u64
+}
+
+// How many characters a whole number takes.
+pub fn signed_len(z: i64) -> usize
+    ensures { λ r. ⌜ r ≡ length (signedOf z) ⌝ }
+{
+    let n = decimal_len(magnitude(z));
+    if z < 0 {
+        return n + 1;
+    }
+    n
+}
+
+// A number behind a `-`.
+fn put_negative(out: &mut [u8], at: usize, n: u64)
+    ensures { λ _. ⌜ now (out .exit) ≡ splice (now (out .entry)) at (0x2D ∷ decimalOf n) ⌝ }
+{
+    if at < out.len() {
+        wire::put_u8(out, at, 0x2D);
+        put_decimal(out, at + 1, n);
+    }
+}
+
+pub fn put_signed(out: &mut [u8], at: usize, z: i64)
+    ensures { λ _. ⌜ now (out .exit) ≡ splice (now (out .entry)) at (signedOf z) ⌝ }
+{
+    if z < 0 {
+        put_negative(out, at, magnitude(z));
+        return;
+    }
+    put_decimal(out, at, magnitude(z));
+}
+
+fn hex_digit(d: u8) -> u8
+    requires { ⌜ d < 16 ⌝ }
+    ensures { λ r. ⌜ r ≡ hexDigit d ⌝ }
+{
+    if d < 10 { 0x30 + d } else { 0x37 + d }
+}
+
+// One byte, so far behind an offset.
+fn put_one(out: &mut [u8], at: usize, i: usize, b: u8)
+    ensures { λ _. ⌜ now (out .exit) ≡ splice (now (out .entry)) (at + i) (b ∷ []) ⌝ }
+{
+    if at < out.len() {
+        if i < out.len() - at {
+            out[at + i] = b;
+        }
+    }
+}
+
+// So many hex digits of a number, the lowest last.
+pub fn put_hex(out: &mut [u8], at: usize, n: u64, width: usize)
+    ensures { λ _. ⌜ now (out .exit) ≡ splice (now (out .entry)) at (hexOf width n) ⌝ }
+{
+    let mut i = width;
+    let mut x = n;
+    while 0 < i {
+        i -= 1;
+        put_one(out, at, i, hex_digit((x % 16) as u8));
+        x /= 16;
+    }
+}
+
+// Whether a byte of a text is shown as it is.
+pub fn shown_in_text(b: u8) -> bool
+    ensures { λ r. ⌜ r ≡ shownInText b ⌝ }
+{
+    if b < 0x20 {
+        return false;
+    }
+    if 0x7E < b {
+        return false;
+    }
+    if b == 0x22 {
+        return false;
+    }
+    b != 0x5C
+}
+
+// Whether a byte of a name is shown as it is.
+pub fn shown_in_name(b: u8) -> bool
+    ensures { λ r. ⌜ r ≡ shownInName b ⌝ }
+{
+    if b == 0x20 {
+        return false;
+    }
+    if b == 0x3D {
+        return false;
+    }
+    shown_in_text(b)
+}
+
+// How many characters a byte takes.
+pub fn byte_len(shown: bool) -> usize
+    ensures { λ r. ⌜ r ≡ byteLen shown ⌝ }
+{
+    if shown { 1 } else { 4 }
+}
+
+pub fn put_byte(out: &mut [u8], at: usize, b: u8, shown: bool)
+    ensures { λ _. ⌜ now (out .exit) ≡ splice (now (out .entry)) at (byteOf shown b) ⌝ }
+{
+    if shown {
+        wire::copy_at(out, at, &[b]);
+        return;
+    }
+    wire::copy_at(out, at, &[0x5C, 0x78, hex_digit(b / 16), hex_digit(b % 16)]);
+}
