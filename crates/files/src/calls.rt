@@ -7,7 +7,7 @@ use crate::commands::Storing;
 use crate::reading;
 use crate::writing;
 use crate::writing::Adding;
-use crate::writing::Session;
+use crate::writing::Draft;
 use entries::Field;
 use entries::Value;
 use parts::Epoch;
@@ -61,7 +61,7 @@ fn put(line: &[u8], file: &mut [u8], at: usize) -> usize {
     text::with(file, at, &bytes[..n])
 }
 
-fn append(s: Session, line: &[u8], file: &mut [u8], at: usize) -> Session {
+fn append(s: Draft, line: &[u8], file: &mut [u8], at: usize) -> Draft {
     let n = put(line, file, at);
     writing::with_len(s, n)
 }
@@ -70,7 +70,7 @@ fn flips(line: &[u8], file: &mut [u8], n: usize, table: &mut [u8]) {
     reading::flips(file, n, size(line, 1), size(line, 2), table);
 }
 
-pub fn file(c: Filing, line: &[u8], s: Session, file: &mut [u8], table: &mut [u8]) -> Session {
+pub fn file(c: Filing, line: &[u8], s: Draft, file: &mut [u8], table: &mut [u8]) -> Draft {
     match c {
         Filing::File => append(s, line, file, 0),
         Filing::Append => append(s, line, file, s.len),
@@ -101,10 +101,10 @@ fn part(line: &[u8]) -> Field {
 pub fn enter(
     c: Entering,
     line: &[u8],
-    s: Session,
+    s: Draft,
     dictionary: &mut [u8],
     payload: &mut [u8],
-) -> Session {
+) -> Draft {
     let room = size(line, 1);
     let second = number(line, 2);
     match c {
@@ -150,11 +150,11 @@ fn header(c: Storing) -> usize {
 pub fn store(
     c: Storing,
     line: &[u8],
-    s: Session,
+    s: Draft,
     table: &mut [u8],
     out: &mut [u8],
     file: &mut [u8],
-) -> Session {
+) -> Draft {
     let w = s.writer;
     let r = call(c, line, w, table, out);
     answers::stored(r, &*out);
@@ -163,10 +163,10 @@ pub fn store(
 
 pub fn blocks(
     line: &[u8],
-    s: Session,
+    s: Draft,
     table: &mut [u8],
     out: &mut [u8],
     file: &mut [u8],
-) -> Session {
+) -> Draft {
     writing::blocks(s, size(line, 1), table, out, file)
 }

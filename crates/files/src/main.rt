@@ -37,19 +37,19 @@ ghost use mathlib.Core.Path.{_≡_};
 ghost use lib.ListN.{length};
 use commands::Command;
 use libc::STDIN_FILENO;
-use writing::Session;
+use writing::Draft;
 
 // The command of a line, with all that is lent.
 fn follow(
     line: &[u8],
-    s: Session,
+    s: Draft,
     file: &mut [u8],
     found: &mut [u8],
     dictionary: &mut [u8],
     payload: &mut [u8],
     table: &mut [u8],
     out: &mut [u8],
-) -> Session {
+) -> Draft {
     let c = commands::named(text::word(line, 0));
     match c {
         Command::Read(r) => {

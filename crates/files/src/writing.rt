@@ -11,23 +11,23 @@ use writer::Stored;
 use writer::Writer;
 
 // What is kept from line to line, beside the lent bytes: the writer, and the length of the file.
-pub struct Session {
+pub struct Draft {
     pub writer: Writer,
     pub len: usize,
 }
 
-pub fn at_first() -> Session {
+pub fn at_first() -> Draft {
     let writer = Writer::new();
-    Session { writer, len: 0 }
+    Draft { writer, len: 0 }
 }
 
-fn with_writer(s: Session, writer: Writer) -> Session {
-    Session { writer, len: s.len }
+fn with_writer(s: Draft, writer: Writer) -> Draft {
+    Draft { writer, len: s.len }
 }
 
-pub fn with_len(s: Session, len: usize) -> Session {
+pub fn with_len(s: Draft, len: usize) -> Draft {
     let writer = s.writer;
-    Session { writer, len }
+    Draft { writer, len }
 }
 
 // Puts stores in a file, the header that they start with, if any, at its start and the rest at its end; says where it ends then.
@@ -41,14 +41,14 @@ fn put_stores(file: &mut [u8], end: usize, header: usize, stores: &[u8]) -> usiz
     text::with(file, end, rest)
 }
 
-// The session behind a call whose stores start with a header of so many bytes.
-pub fn behind(s: Session, r: Stored, header: usize, out: &[u8], file: &mut [u8]) -> Session {
+// The draft behind a call whose stores start with a header of so many bytes.
+pub fn behind(s: Draft, r: Stored, header: usize, out: &[u8], file: &mut [u8]) -> Draft {
     match r {
         Stored::Refused(_) => s,
         Stored::Done(w, size) => {
             let stores = wire::part_at(out, 0, size as usize);
             let len = put_stores(file, s.len, header, stores);
-            Session { writer: w, len }
+            Draft { writer: w, len }
         }
     }
 }
@@ -58,14 +58,14 @@ pub fn begin(w: Writer, room: usize, out: &mut [u8]) -> Stored {
     w.begin(&mut out[..n])
 }
 
-fn behind_name(s: Session, r: Named) -> Session {
+fn behind_name(s: Draft, r: Named) -> Draft {
     match r {
         Named::Number(w, _) => with_writer(s, w),
         Named::Refused(_) => s,
     }
 }
 
-fn add_name(s: Session, room: usize, name: &[u8], dictionary: &mut [u8]) -> Session {
+fn add_name(s: Draft, room: usize, name: &[u8], dictionary: &mut [u8]) -> Draft {
     let w = s.writer;
     let n = text::reach(&*dictionary, 0, room);
     let r = w.add_name(&mut dictionary[..n], name);
@@ -74,19 +74,19 @@ fn add_name(s: Session, room: usize, name: &[u8], dictionary: &mut [u8]) -> Sess
 }
 
 // A name of up to 2,048 bytes, in hexadecimal.
-pub fn name(s: Session, room: usize, hex: &[u8], dictionary: &mut [u8]) -> Session {
+pub fn name(s: Draft, room: usize, hex: &[u8], dictionary: &mut [u8]) -> Draft {
     let mut bytes = io::buffer();
     let n = text::unhex(hex, &mut bytes);
     add_name(s, room, &bytes[..n], dictionary)
 }
 
 // A name of so many letters, up to 65,536.
-pub fn long_name(s: Session, room: usize, len: usize, dictionary: &mut [u8]) -> Session {
+pub fn long_name(s: Draft, room: usize, len: usize, dictionary: &mut [u8]) -> Draft {
     let letters = [b'a'; 65536];
     add_name(s, room, wire::part_at(&letters, 0, len), dictionary)
 }
 
-fn behind_entry(s: Session, r: Entered) -> Session {
+fn behind_entry(s: Draft, r: Entered) -> Draft {
     match r {
         Entered::Done(w) => with_writer(s, w),
         Entered::Refused(_) => s,
@@ -94,14 +94,14 @@ fn behind_entry(s: Session, r: Entered) -> Session {
 }
 
 fn add_entry(
-    s: Session,
+    s: Draft,
     room: usize,
     time: Epoch,
     fields: [Field; 255],
     count: usize,
     text: &[u8],
     payload: &mut [u8],
-) -> Session {
+) -> Draft {
     let w = s.writer;
     let n = text::reach(&*payload, 0, room);
     let r = w.add_entry(&mut payload[..n], time, fields, count, text);
@@ -141,7 +141,7 @@ fn fields_in(entry: &[u8]) -> [Field; 255] {
 }
 
 // An entry's count and fields, in hexadecimal; they are lent as the text that its fields have their texts in.
-pub fn entry(s: Session, room: usize, time: u64, hex: &[u8], payload: &mut [u8]) -> Session {
+pub fn entry(s: Draft, room: usize, time: u64, hex: &[u8], payload: &mut [u8]) -> Draft {
     let mut bytes = io::buffer();
     let n = text::unhex(hex, &mut bytes);
     let count = wire::u8_at(&bytes[..n], 0) as usize;
@@ -151,24 +151,24 @@ pub fn entry(s: Session, room: usize, time: u64, hex: &[u8], payload: &mut [u8])
 
 // An entry that claims so many fields.
 pub fn entry_count(
-    s: Session,
+    s: Draft,
     room: usize,
     time: u64,
     count: usize,
     payload: &mut [u8],
-) -> Session {
+) -> Draft {
     add_entry(s, room, Epoch(time), nulls(), count, b"", payload)
 }
 
 // An entry of one field, a string at a place in a text.
 pub fn entry_part(
-    s: Session,
+    s: Draft,
     room: usize,
     time: u64,
     field: Field,
     hex: &[u8],
     payload: &mut [u8],
-) -> Session {
+) -> Draft {
     let mut bytes = io::buffer();
     let n = text::unhex(hex, &mut bytes);
     let mut fields = nulls();
@@ -229,12 +229,12 @@ fn small_block(w: Writer, table: &mut [u8], out: &mut [u8]) -> Stored {
 
 // One small block, whose answer is printed or not.
 fn add_small(
-    s: Session,
+    s: Draft,
     shown: bool,
     table: &mut [u8],
     out: &mut [u8],
     file: &mut [u8],
-) -> Session {
+) -> Draft {
     let w = s.writer;
     let r = small_block(w, table, out);
     if shown {
@@ -244,7 +244,7 @@ fn add_small(
 }
 
 // So many small blocks, of which only the last one's answer is printed.
-pub fn blocks(s: Session, n: usize, table: &mut [u8], out: &mut [u8], file: &mut [u8]) -> Session {
+pub fn blocks(s: Draft, n: usize, table: &mut [u8], out: &mut [u8], file: &mut [u8]) -> Draft {
     let mut next = s;
     let mut left = n;
     while 0 < left {
@@ -283,7 +283,7 @@ pub fn close(
 }
 
 // The writer's state, and the CRC-32 of each of the lent buffers.
-pub fn state(s: Session, dictionary: &[u8], payload: &[u8], table: &[u8], out: &[u8]) {
+pub fn state(s: Draft, dictionary: &[u8], payload: &[u8], table: &[u8], out: &[u8]) {
     let w = s.writer;
     answers::state(w);
     answers::sum(dictionary);
