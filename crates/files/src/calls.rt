@@ -161,12 +161,6 @@ pub fn store(
     writing::behind(s, r, header(c), &*out, file)
 }
 
-pub fn blocks(
-    line: &[u8],
-    s: Draft,
-    table: &mut [u8],
-    out: &mut [u8],
-    file: &mut [u8],
-) -> Draft {
+pub fn blocks(line: &[u8], s: Draft, table: &mut [u8], out: &mut [u8], file: &mut [u8]) -> Draft {
     writing::blocks(s, size(line, 1), table, out, file)
 }

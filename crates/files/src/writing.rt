@@ -150,13 +150,7 @@ pub fn entry(s: Draft, room: usize, time: u64, hex: &[u8], payload: &mut [u8]) -
 }
 
 // An entry that claims so many fields.
-pub fn entry_count(
-    s: Draft,
-    room: usize,
-    time: u64,
-    count: usize,
-    payload: &mut [u8],
-) -> Draft {
+pub fn entry_count(s: Draft, room: usize, time: u64, count: usize, payload: &mut [u8]) -> Draft {
     add_entry(s, room, Epoch(time), nulls(), count, b"", payload)
 }
 
@@ -228,13 +222,7 @@ fn small_block(w: Writer, table: &mut [u8], out: &mut [u8]) -> Stored {
 }
 
 // One small block, whose answer is printed or not.
-fn add_small(
-    s: Draft,
-    shown: bool,
-    table: &mut [u8],
-    out: &mut [u8],
-    file: &mut [u8],
-) -> Draft {
+fn add_small(s: Draft, shown: bool, table: &mut [u8], out: &mut [u8], file: &mut [u8]) -> Draft {
     let w = s.writer;
     let r = small_block(w, table, out);
     if shown {
