@@ -1,3 +1,4 @@
+-- `digits::byte_len` meets its contract. Assumes nothing.
 use mathlib.Core.Path.{ap, sym}
 use Rattle.digits.specs.Digits.{byteLen}
 use Rattle.digits.proofs.byte_len.Statement.{statement}

@@ -1,3 +1,4 @@
+-- `digits::decimal_len` meets its contract. Assumes nothing.
 use Rattle.digits.proofs.Decimals.{length-from}
 use borrow.Author.Needs.{needs}
 use Rattle.digits.proofs.decimal_len.Statement.{statement}

@@ -1,3 +1,4 @@
+-- `digits::fill` meets its contract. Assumes nothing.
 use Rattle.digits.proofs.Decimals.{digits-start, digits-left, fewer-digits, digit-turn, digit-last}
 use mathlib.Core.Path.{_≡_, refl, _∙_}
 use mathlib.Core.List.{_++_}

@@ -1,3 +1,4 @@
+-- `digits::magnitude` meets its contract. Assumes nothing.
 use native.Mathlib.Omega.{arith}
 use Rattle.digits.proofs.Signs.{Below, below, Above, above}
 use Rattle.digits.proofs.magnitude.Statement.{statement}

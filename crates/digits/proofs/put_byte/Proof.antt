@@ -1,3 +1,4 @@
+-- `digits::put_byte` meets its contract. Assumes nothing.
 use mathlib.Core.Path.{_∙_, ap, sym}
 use mathlib.Core.Bool.{Bool}
 use borrow.Author.Needs.{needs}

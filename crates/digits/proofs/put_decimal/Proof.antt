@@ -1,3 +1,4 @@
+-- `digits::put_decimal` meets its contract. Assumes nothing.
 use Rattle.digits.proofs.Decimals.{digits-part}
 use borrow.Author.Needs.{needs}
 use Rattle.digits.proofs.put_decimal.Statement.{statement}

@@ -1,7 +1,8 @@
+-- `digits::put_hex` meets its contract. Assumes nothing.
 use Rattle.digits.proofs.Hex.{hex-start, hex-untouched, hex-turn, hex-put, hex-end}
 use mathlib.Core.Path.{_≡_}
 use mathlib.Core.List.{_++_}
-use Prim.Native.Nat.{_+_, _≤_}
+use Prim.Native.Nat.{_+_}
 use native.Mathlib.Omega.{arith}
 use lib.ListN.{length, drop}
 use borrow.Author.Needs.{needs}

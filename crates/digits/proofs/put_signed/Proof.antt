@@ -1,3 +1,4 @@
+-- `digits::put_signed` meets its contract. Assumes nothing.
 use mathlib.Core.Path.{ap, _∙_, sym}
 use mathlib.Core.List.{_∷_}
 use Prim.Native.Nat.{ℕ}
@@ -6,7 +7,7 @@ use mir.ValLaws.{toZ-ofZ}
 use borrow.Author.Needs.{needs}
 use Rattle.wire.specs.Wire.{splice}
 use Rattle.digits.specs.Digits.{decimalOf, magnitudeOf}
-use Rattle.digits.proofs.Signs.{Below, below, Above, above}
+use Rattle.digits.proofs.Signs.{below, above}
 use Rattle.digits.proofs.put_signed.Statement.{statement}
 use Rattle.digits.proofs.put_signed.Tie as tie
 

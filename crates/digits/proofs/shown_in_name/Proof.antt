@@ -1,3 +1,4 @@
+-- `digits::shown_in_name` meets its contract. Assumes nothing.
 use mathlib.Core.Path.{_∙_}
 use Rattle.digits.proofs.Hex.{name-space, name-equals, name-rest}
 use borrow.Author.Needs.{needs}

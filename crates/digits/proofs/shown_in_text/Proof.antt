@@ -1,3 +1,4 @@
+-- `digits::shown_in_text` meets its contract. Assumes nothing.
 use Rattle.digits.proofs.Hex.{text-below, text-above, text-quote, text-rest}
 use borrow.Author.Needs.{needs}
 use Rattle.digits.proofs.shown_in_text.Statement.{statement}

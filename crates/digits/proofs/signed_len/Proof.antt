@@ -1,3 +1,4 @@
+-- `digits::signed_len` meets its contract. Assumes nothing.
 use mathlib.Core.Path.{sym, ap, _∙_}
 use lib.ListN.{length}
 use Prim.Native.Nat.{ℕ, _+_}
@@ -7,7 +8,7 @@ use native.Mathlib.Numerals.{add-one}
 use native.Mathlib.Omega.{arith}
 use borrow.Author.Needs.{needs}
 use Rattle.digits.specs.Digits.{decimalOf, magnitudeOf}
-use Rattle.digits.proofs.Signs.{Below, below, Above, above}
+use Rattle.digits.proofs.Signs.{below, above}
 use Rattle.digits.proofs.Decimals.{decimal-short}
 use Rattle.digits.proofs.signed_len.Statement.{statement}
 use Rattle.digits.proofs.signed_len.Tie as tie
