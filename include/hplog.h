@@ -1,0 +1,196 @@
+/* HPLOG version 1 log files: opened, searched, recovered, repaired, read, listed and written.
+ *
+ * Every call takes every input and lends back everything it was lent: it keeps no pointer, allocates nothing and has no state of its own. What a
+ * call writes goes to lent bytes, and a refusal changes none of them. A pointer with length 0 may be anything but a null pointer; lent outputs
+ * overlap nothing else that is lent. All numbers in records are little-endian.
+ *
+ * A refusal is a number and a place; "place" is the offset of the first field at fault, in the file or in the payload, unless stated:
+ *
+ *      1  the file is below 64 bytes; place = its length
+ *      2  a wrong mark
+ *      3  a wrong version
+ *      4  a reserved field that is not zero
+ *      5  the file was not closed (its dictionary offset is 0)
+ *      6  an offset, length or count does not fit the layout or its field
+ *      7  a block's number, times or entries break the rules; index rows out of order (place = row)
+ *      8  a checksum differs
+ *      9  index, header and blocks disagree
+ *     10  the plain dictionary is wrong
+ *     11  the plain entries are wrong
+ *     12  a lent output is too small; place = the bytes needed
+ *     13  T1 is above T2 (place T1); the writer's time goes back or leaves the block (place = that time)
+ *     14  no such name or block; place = the number asked
+ *     15  label: the name is above 16 bytes (place 16), else its first byte that is not printable
+ *     16  repair: there is no dictionary; place = the end of the last block
+ *     17  a writer's call out of turn; place 0
+ */
+#ifndef HPLOG_H
+#define HPLOG_H
+
+#include <stddef.h>
+#include <stdint.h>
+
+#ifdef __cplusplus
+extern "C" {
+#endif
+
+#define HPLOG_HEADER 64       /* bytes of a file's header, and where its first block starts */
+#define HPLOG_BLOCK_HEADER 36 /* bytes of a block's header, in front of its stored bytes */
+#define HPLOG_ROW 28          /* bytes of a row: u64 start, u64 end, u64 offset of the block's header, u32 stored size */
+#define HPLOG_FRAME 40        /* bytes of a frame, see hplog_open */
+#define HPLOG_REPORT 32       /* bytes of a report, see hplog_recover */
+#define HPLOG_PANEL 16        /* bytes of a panel, see hplog_label */
+#define HPLOG_FIELD 24        /* bytes of a field to write, see hplog_add_entry */
+#define HPLOG_BLOCKS 4096     /* the most blocks that a file has */
+#define HPLOG_PIECE 50        /* an output of so many bytes has room for some of any listing that is left */
+
+/* What most calls answer. number is 0 where the call was accepted; count is then what the call says, and place is 0 unless it says otherwise.
+ * On a refusal count is 0. */
+typedef struct {
+    uint64_t number, place, count;
+} hplog_answer;
+
+/* ---- a file ---- */
+
+/* Opens a finished file: checks all of it, writes its rows to rows and its frame to frame; count = rows.
+ * A frame: five u64: place of the dictionary's length field, the dictionary's stored size, place of the index, first time, last time.
+ * Refusals in order: (6, rows_len) where rows_len is no multiple of 28; 1 to 9 as document 01 orders open's checks; 12 for rows; 12 for frame. */
+hplog_answer hplog_open(const uint8_t *log, size_t log_len, uint8_t *rows, size_t rows_len, uint8_t *frame, size_t frame_len);
+
+/* Lists the blocks that meet the times from t1 to t2 (a row's end at least t1, its start at most t2): writes their numbers, ascending, as u32 each
+ * to numbers; count = numbers. All of rows are rows.
+ * Refusals in order: (13, t1) where t1 is above t2; (6, rows_len) where it is no multiple of 28; (6, rows) above 4,096 rows; (7, row) for the
+ * first row that ends below its start or starts below the end before; 12. */
+hplog_answer hplog_query(const uint8_t *rows, size_t rows_len, uint64_t t1, uint64_t t2, uint8_t *numbers, size_t numbers_len);
+
+/* Finds the whole blocks of a file that may be damaged or cut: writes their rows to rows and a report to report; count = rows.
+ * A report: four u64: end of the last whole block (64 with none), number and place of what stopped the scan (0 and 0 for a clean end), 1 where a
+ * whole dictionary stands at the header's offset, else 0.
+ * Refusals in order: (6, rows_len) where rows_len is no multiple of 28; 1, 2, 3, 4 of the header; (6, 10) for its dictionary offset; 12 for rows;
+ * 12 for report. */
+hplog_answer hplog_recover(const uint8_t *log, size_t log_len, uint8_t *rows, size_t rows_len, uint8_t *report, size_t report_len);
+
+/* Writes the finished file of a damaged one to out; count = its bytes. dictionary is the stored dictionary to use where the file has none that is
+ * whole; it may be empty.
+ * Refusals in order: 1, 2, 3, 4 and 6 as in hplog_recover; for a file with a dictionary offset what stopped the scan, then (9, 18) for a wrong block
+ * count; where the lent dictionary is needed (6, its length) above 32 bits, then 16 for an empty one; 12. */
+hplog_answer hplog_repair(const uint8_t *log, size_t log_len, const uint8_t *dictionary, size_t dictionary_len, uint8_t *out, size_t out_len);
+
+/* Writes a name as a panel's sixteen bytes, filled up with spaces; count = 0. Bytes of panel past the sixteenth stay as they are.
+ * Refusals in order: 15; 12. */
+hplog_answer hplog_label(const uint8_t *name, size_t name_len, uint8_t *panel, size_t panel_len);
+
+/* ---- plain dictionaries ---- */
+
+/* Checks a plain dictionary; count = names. Refusal: 10 (place: the offset of the field at fault; a name's bytes where they are not UTF-8 or equal
+ * an earlier name's; a name's length field where the name runs out of the dictionary). */
+hplog_answer hplog_names(const uint8_t *dictionary, size_t dictionary_len);
+
+/* Finds name i of a plain dictionary; place = the offset of its bytes, count = how many they are. Refusals in order: 10; (14, i). */
+hplog_answer hplog_name(const uint8_t *dictionary, size_t dictionary_len, uint64_t i);
+
+/* ---- plain blocks, step by step ----
+ * A block's plain bytes are entries: a delta, a field count, so many fields. A step takes a position and gives the next one back; the first is 0.
+ * Refusal: 11 (place: the payload's length where the step runs past it, else the position). On a refusal all but number and place is 0. */
+
+typedef struct {
+    uint64_t at;
+} hplog_cursor;
+
+/* value: nanoseconds from the block's start, or the number of fields */
+typedef struct {
+    uint64_t number, place, value;
+    hplog_cursor next;
+} hplog_step;
+
+/* type 0 string, 1 whole number, 2 real, 3 truth, 4 null, 5 JSON text.
+ * bits: of 1 the number in two's complement, of 2 the bits of the real, of 3 0 or 1; else 0.
+ * from, length: where in the payload the bytes of 0 and 5 stand; else 0. */
+typedef struct {
+    uint64_t number, place, id, type, bits, from, length;
+    hplog_cursor next;
+} hplog_field_step;
+
+hplog_step hplog_delta(const uint8_t *payload, size_t payload_len, hplog_cursor at);
+hplog_step hplog_count(const uint8_t *payload, size_t payload_len, hplog_cursor at);
+/* names: how many names there are; an id that is not below it is 11 */
+hplog_field_step hplog_field(const uint8_t *payload, size_t payload_len, uint32_t names, hplog_cursor at);
+
+/* ---- the listing ----
+ * A log with its plain book (mark PLB, u16 version 1, then u32 length and plain bytes for each block, and last for the dictionary), as text:
+ * a line of totals, then a line for each entry; or, where log or book is refused, the one line of that refusal. */
+
+/* Where a listing stands. Its fields are for hplog_list_next alone. */
+typedef struct {
+    uint64_t kind, blocks, at, plain, dictionary, length, names, entries, pos, fields, from, left;
+} hplog_listing;
+
+typedef struct {
+    hplog_answer answer;
+    hplog_listing next;
+} hplog_listed;
+
+/* Checks a log and its book; count = entries. next is where the listing starts; where they are refused, it is the refusal's line.
+ * Refusals in order: hplog_open's 1 to 9; the book's 2, 3 and 6, place in the book; 10 of the plain dictionary; 11 of the plain blocks. */
+hplog_listed hplog_list(const uint8_t *log, size_t log_len, const uint8_t *book, size_t book_len);
+
+/* Writes as much of the listing as fits into out, in whole words; answer.count = bytes. It ends where count is 0 with an out_len of HPLOG_PIECE or
+ * more. No refusals. */
+hplog_listed hplog_list_next(const uint8_t *log, size_t log_len, const uint8_t *book, size_t book_len, hplog_listing at, uint8_t *out, size_t out_len);
+
+/* ---- the writer ----
+ * Each call takes the state that the call before gave back, the first one that of hplog_writer_new, and gives the next back; on a refusal it is the
+ * state that was taken. The bytes that begin, add_block and close write to out are the call's stores: the first header, the block, and last the
+ * header again, which goes to the file's front, and dictionary, index and footer end to end, which go to its end.
+ * Refusal of each: (17, 0) out of turn: begin comes once and first, close last and with no block open; also for a state that no call left. */
+
+/* turn: 0 new, 1 begun, any other closed */
+typedef struct {
+    uint64_t length, end, dictionary, start, last, plain;
+    uint32_t blocks, given, names, turn;
+} hplog_writer;
+
+typedef struct {
+    hplog_answer answer;
+    hplog_writer next;
+} hplog_written;
+
+hplog_writer hplog_writer_new(void);
+
+/* The first header; count = 64. Refusals in order: 17; (12, 64). */
+hplog_written hplog_begin(hplog_writer state, uint8_t *out, size_t out_len);
+
+/* Adds a name to the plain dictionary that is being built in dictionary (next.dictionary bytes of it, once there is a name); count = its number, the
+ * old one for a name already held. Refusals in order: 17; (6, 65536) with 65,535 names held; (6, name_len) above 65,535; (10, 0) where the
+ * name is not UTF-8; 12. */
+hplog_written hplog_add_name(hplog_writer state, uint8_t *dictionary, size_t dictionary_len, const uint8_t *name, size_t name_len);
+
+/* Adds an entry to the plain bytes of the open block in payload (next.plain bytes of it), opening a block where none is; count = 0.
+ * fields: 24 bytes each: u16 id, u8 type, 5 bytes of no meaning, u64 bits or from, u64 length (types as in hplog_field_step: from and length say
+ * where in text the bytes of 0 and 5 stand, and bits is the value of 1, 2 and 3). A type above 5, a truth above 1 and a field that is cut are wrong
+ * fields.
+ * Refusals in order: 17; (13, time) where time is below the last entry or block, or not within 30 seconds of the block's start; (6, 4097) with
+ * 4,096 blocks; (6, fields) above 255; (6, length) for a text above 32 bits; (6, length) for plain bytes above 32 bits; (11, where the field would
+ * stand in payload) for an id not below the names held, for a wrong field, and for a text that does not lie in text or is not UTF-8; 12. */
+hplog_written hplog_add_entry(hplog_writer state, uint8_t *payload, size_t payload_len, uint64_t time, const uint8_t *fields, size_t fields_len,
+                              const uint8_t *text, size_t text_len);
+
+/* Adds a block, which ends any open one: its row goes to rows behind those of the blocks before; count = 36 + stored_len. plain are its plain bytes,
+ * names is the number of names so far.
+ * Refusals in order: 17; (13, start) below the end before; (6, 4097) with 4,096 blocks; (6, names) above 65,535; (6, stored_len) above 32 bits;
+ * (6, plain_len) above 32 bits; (6, names) below the names of a block before; 11 of the plain bytes; 12 for rows; 12 for out. */
+hplog_written hplog_add_block(hplog_writer state, uint8_t *rows, size_t rows_len, uint8_t *out, size_t out_len, uint64_t start, const uint8_t *plain,
+                              size_t plain_len, const uint8_t *stored, size_t stored_len, uint32_t names);
+
+/* Closes the file: count = the bytes of its last four stores, 64 of header, then dictionary, index and footer. rows are those that add_block left,
+ * plain is the plain dictionary, stored its stored bytes.
+ * Refusals in order: 17 (also for rows too short for the blocks); (6, stored_len) above 32 bits; (6, 0) for empty stored; 10; (6, names) for fewer
+ * names than a block was given; 12. */
+hplog_written hplog_close(hplog_writer state, const uint8_t *rows, size_t rows_len, uint8_t *out, size_t out_len, const uint8_t *plain,
+                          size_t plain_len, const uint8_t *stored, size_t stored_len);
+
+#ifdef __cplusplus
+}
+#endif
+
+#endif
