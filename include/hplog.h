@@ -122,7 +122,9 @@ hplog_field_step hplog_field(const uint8_t *payload, size_t payload_len, uint32_
 
 /* Where a listing stands. Its fields are for hplog_list_next alone. */
 typedef struct {
-    uint64_t kind, blocks, at, plain, dictionary, length, names, entries, pos, fields, from, left;
+    uint64_t at, plain, dictionary, length, pos, from, left;
+    uint32_t blocks, names, entries;
+    uint8_t fields, kind;
 } hplog_listing;
 
 typedef struct {
@@ -142,9 +144,12 @@ hplog_listed hplog_list_next(const uint8_t *log, size_t log_len, const uint8_t *
  * Each call takes the state that the call before gave back, the first one that of hplog_writer_new, and gives the next back; on a refusal it is the
  * state that was taken. The bytes that begin, add_block and close write to out are the call's stores: the first header, the block, and last the
  * header again, which goes to the file's front, and dictionary, index and footer end to end, which go to its end.
- * Refusal of each: (17, 0) out of turn: begin comes once and first, close last and with no block open; also for a state that no call left. */
+ * Refusal of each: (17, 0) out of turn: begin comes once and first, close last and with no block open; also for a state with counts that no calls
+ * leave. */
 
-/* turn: 0 new, 1 begun, any other closed */
+/* length: bytes of the file so far; end: the end of the last block; dictionary: bytes of the plain dictionary that is being built, 4 with no name;
+ * start, last, plain: start, last time and plain bytes of the open block, all 0 where none is open; blocks: how many are stored; given: the names
+ * that the last block was given; names: how many are held; turn: 0 new, 1 begun, 2 closed, as any other. Closing changes the turn alone. */
 typedef struct {
     uint64_t length, end, dictionary, start, last, plain;
     uint32_t blocks, given, names, turn;
@@ -160,9 +165,9 @@ hplog_writer hplog_writer_new(void);
 /* The first header; count = 64. Refusals in order: 17; (12, 64). */
 hplog_written hplog_begin(hplog_writer state, uint8_t *out, size_t out_len);
 
-/* Adds a name to the plain dictionary that is being built in dictionary (next.dictionary bytes of it, once there is a name); count = its number, the
- * old one for a name already held. Refusals in order: 17; (6, 65536) with 65,535 names held; (6, name_len) above 65,535; (10, 0) where the
- * name is not UTF-8; 12. */
+/* Adds a name to the plain dictionary that is being built in dictionary (next.dictionary bytes of it; with no name at all it is four zero bytes,
+ * which no call writes); count = its number, the old one for a name already held. Refusals in order: 17; for a name not held (6, 65536) with 65,535
+ * names; (6, name_len) above 65,535; (10, 0) where the name is not UTF-8; 12. */
 hplog_written hplog_add_name(hplog_writer state, uint8_t *dictionary, size_t dictionary_len, const uint8_t *name, size_t name_len);
 
 /* Adds an entry to the plain bytes of the open block in payload (next.plain bytes of it), opening a block where none is; count = 0.

@@ -14,11 +14,11 @@ use Rattle.parts.specs.declared.time.Epoch.{Epoch}
 use Rattle.parts.specs.declared.IndexRow.{IndexRow}
 use Rattle.parts.specs.Parts.{emptyHeader, headerBytes, footerBytes}
 use Rattle.parts.proofs.Parts.{length-header, length-footer}
-use Rattle.entries.specs.declared.steps.Field.{Field}
 use Rattle.rows.specs.Rows.{stride, rowsOf, tableBytes}
 use Rattle.layout.specs.Layout.{blockBytes, blockSize, rowFor, dictionaryBytes, indexBytes, tailBytes, closedHeader, closingBytes}
 use Rattle.layout.proofs.Parts.{length-block, length-dictionary}
 use Rattle.packing.specs.Rules.{largest}
+use Rattle.packing.specs.Table.{recordsIn, fieldsOf}
 use Rattle.lookup.specs.Lookup.{Found, numbered, missing}
 use Rattle.writer.proofs.Blocks.{block-fits}
 use Rattle.writer.proofs.Closes.{close-good, close-fits}
@@ -71,12 +71,12 @@ module _ (h : Writing) where
       go sound e = rw e (named (heldAs (h .writer) (h .dictionary) bytes) bytes (nameOut (h .writer) (h .dictionary) bytes))
       go (broken n p) e = rw e (record { turn = refl; blocks = refl; length = refl; end = refl; given = refl; table = refl })
 
-  pub entry-idle : (t : Epoch) (text : List ℕ) (count : ℕ) (fields : List Field) → Idle h (next h (entry t text count fields))
+  pub entry-idle : (t : Epoch) (text table : List ℕ) → Idle h (next h (entry t text table))
   unfolding next entryOf withEntry
-  entry-idle t text count fields = go (firstBroken (entryRules (h .writer) t text count (take count fields) (length (h .payload)))) refl
+  entry-idle t text table = go (firstBroken (entryRules (h .writer) t text (recordsIn table) (fieldsOf table) (length (h .payload)))) refl
     where
-      go : (v : Verdict) → firstBroken (entryRules (h .writer) t text count (take count fields) (length (h .payload))) ≡ v
-          → Idle h (next h (entry t text count fields))
+      go : (v : Verdict) → firstBroken (entryRules (h .writer) t text (recordsIn table) (fieldsOf table) (length (h .payload))) ≡ v
+          → Idle h (next h (entry t text table))
       go sound e = rw e (record { turn = refl; blocks = refl; length = refl; end = refl; given = refl; table = refl })
       go (broken n p) e = rw e (record { turn = refl; blocks = refl; length = refl; end = refl; given = refl; table = refl })
 

@@ -10,7 +10,7 @@ use lib.Seq.{take-at, length-take-le}
 use borrow.Author.Tests.{ltb-false, leb-true, le-leb}
 use Rattle.verdict.specs.Rules.{holds, Verdict, sound, broken, firstBroken, given, Held, verdictIn, ruled}
 use Rattle.verdict.proofs.Laws.{sound-held, held-sound, held-parts, then-sound, first-ruled}
-use Rattle.wire.specs.Wire.{le, splice}
+use Rattle.wire.specs.Wire.{Bytes, le, splice}
 use Rattle.wire.proofs.Splices.{splice-parts}
 use Rattle.parts.specs.declared.time.Epoch.{Epoch}
 use Rattle.varint.specs.Varint.{encode}
@@ -25,6 +25,8 @@ use Rattle.packing.specs.Entry.{sizeOf, fieldIn, fieldsIn, fieldSize, fieldsSiz
 use Rattle.packing.specs.Inner.{AllRanged, Within, AllWithin}
 use Rattle.packing.specs.Rules.{largest, textRules, fieldRules, sizedRules, packRules}
 use Rattle.packing.specs.Rules as packing
+use Rattle.packing.specs.Table.{recordsIn, fieldsOf}
+use Rattle.packing.proofs.Records.{length-fields, fields-ranged}
 use Rattle.packing.proofs.Stores.{size-is}
 use Rattle.packing.proofs.Answers.{all-within}
 use Rattle.packing.proofs.RoundTrip.{reads-behind, first-reads}
@@ -276,14 +278,14 @@ module _ (h : Writing) (es : List Entry) (g : Opened (h .writer) (h .payload) es
   name-after n sound e = rw e (name-kept (h .writer) n (h .payload) es (heldAs (h .writer) (h .dictionary) n) g)
   name-after n (broken m p) e = rw e g
 
-  entry-after : (t : Epoch) (text : List ℕ) (count : ℕ) (fields : List Field) → (t .0 < 2 ^ 64) × AllRanged (take count fields) → (v : Verdict)
-      → firstBroken (entryRules (h .writer) t text count (take count fields) (length (h .payload))) ≡ v → After (entry t text count fields)
+  entry-after : (t : Epoch) (text table : List ℕ) → (t .0 < 2 ^ 64) × Bytes table → (v : Verdict)
+      → firstBroken (entryRules (h .writer) t text (recordsIn table) (fieldsOf table) (length (h .payload))) ≡ v → After (entry t text table)
   unfolding next openAfter entryOf entryOut
-  entry-after t text count fields r sound e =
-      let p = entry-parts (h .writer) t text count (take count fields) (length (h .payload)) e in
-      let l : length (take count fields) ≤ count = omega (arith, length-take count fields) in
-      rw e (opened-more (h .writer) (h .payload) es g t text count (take count fields) (r .0) (r .1) l (p .0) (p .1) (p .2))
-  entry-after t text count fields r (broken n p) e = rw e g
+  entry-after t text table r sound e =
+      let p = entry-parts (h .writer) t text (recordsIn table) (fieldsOf table) (length (h .payload)) e in
+      let l : length (fieldsOf table) ≤ recordsIn table = omega (arith, length-fields table) in
+      rw e (opened-more (h .writer) (h .payload) es g t text (recordsIn table) (fieldsOf table) (r .0) (fields-ranged table (r .1)) l (p .0) (p .1) (p .2))
+  entry-after t text table r (broken n p) e = rw e g
 
   block-after : (a : Adding) (out : List ℕ) (v : Verdict) → firstBroken (blockRules (h .writer) a (length (h .table)) (length out)) ≡ v → After (block a out)
   unfolding next openAfter blockOf withBlock
@@ -301,8 +303,8 @@ module _ (h : Writing) (es : List Entry) (g : Opened (h .writer) (h .payload) es
   opened-next : (c : Call) → Ranges c → After c
   opened-next (begin out) r = begin-after out (firstBroken (beginRules (h .writer) (length out))) refl
   opened-next (name n) r = name-after n (firstBroken (nameRules (h .writer) (h .dictionary) n)) refl
-  opened-next (entry t text count fields) r =
-      entry-after t text count fields r (firstBroken (entryRules (h .writer) t text count (take count fields) (length (h .payload)))) refl
+  opened-next (entry t text table) r =
+      entry-after t text table r (firstBroken (entryRules (h .writer) t text (recordsIn table) (fieldsOf table) (length (h .payload)))) refl
   opened-next (block a out) r = block-after a out (firstBroken (blockRules (h .writer) a (length (h .table)) (length out))) refl
   opened-next (close plain stored out) r = close-after plain stored out (firstBroken (closeRules (h .writer) (h .table) plain stored (length out))) refl
 

@@ -63,7 +63,7 @@ module _ (p cut : ℕ) (h : Writing) where
   unfolding inFull stores accepted
   same (begin out) = same-none (begin out) (begin-none out (firstBroken (beginRules (h .writer) (length out))) refl) refl
   same (name bytes) = same-none (name bytes) refl refl
-  same (entry t text count fields) = same-none (entry t text count fields) refl refl
+  same (entry t text table) = same-none (entry t text table) refl refl
   same (block a out) = same-block a out (firstBroken (blockRules (h .writer) a (length (h .table)) (length out))) refl
   same (close plain stored out) =
       same-none (close plain stored out) (close-none plain stored out (firstBroken (closeRules (h .writer) (h .table) plain stored (length out))) refl) refl

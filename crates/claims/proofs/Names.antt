@@ -16,6 +16,7 @@ use Rattle.wire.proofs.Splices.{length-splice, splice-parts}
 use Rattle.wire.proofs.Lists.{drop-take}
 use Rattle.wire.proofs.Compares.{same-refl, same-equal}
 use Rattle.utf8.specs.Utf8.{utf8Of}
+use Rattle.packing.specs.Table.{recordsIn, fieldsOf}
 use Rattle.names.specs.Dictionary.{nameOf, dictionaryRules, dictionaryOf}
 use Rattle.lookup.specs.Lookup.{Found, numbered, missing, seekFrom}
 use Rattle.writer.specs.declared.state.Turn.{Turn}
@@ -99,10 +100,10 @@ bounds-next h (name bytes) b = go (writer.nameOf (h .writer) (h .dictionary) byt
     go : (o : Outcome Naming) → writer.nameOf (h .writer) (h .dictionary) bytes ≡ o → Bounds (ifGiven o (λ s. s .next) (h .writer))
     go (given s) e = λ t. name-bounded (h .writer) (h .dictionary) bytes s e
     go (refused n p) e = b
-bounds-next h (entry u text count fields) b = go (entryOf (h .writer) u text count (take count fields) (length (h .payload))) refl
+bounds-next h (entry u text table) b = go (entryOf (h .writer) u text (recordsIn table) (fieldsOf table) (length (h .payload))) refl
   where
-    go : (o : Outcome Writer) → entryOf (h .writer) u text count (take count fields) (length (h .payload)) ≡ o → Bounds (ifGiven o (λ s. s) (h .writer))
-    go (given s) e = λ t. entry-bounded (h .writer) u text count (take count fields) (length (h .payload)) s e
+    go : (o : Outcome Writer) → entryOf (h .writer) u text (recordsIn table) (fieldsOf table) (length (h .payload)) ≡ o → Bounds (ifGiven o (λ s. s) (h .writer))
+    go (given s) e = λ t. entry-bounded (h .writer) u text (recordsIn table) (fieldsOf table) (length (h .payload)) s e
     go (refused n p) e = b
 bounds-next h (block a out) b = go (blockOf (h .writer) a (length (h .table)) (length out)) refl
   where
@@ -296,10 +297,10 @@ module _ (h : Writing) (ns : List (List ℕ)) (g : Holding (h .writer) (h .dicti
   unfolding next heldAfter entryOf withEntry blockOf withBlock closeOf closed
   holding-next (begin out) = begin-after out (firstBroken (beginRules (h .writer) (length out))) refl
   holding-next (name n) = name-after n (firstBroken (nameRules (h .writer) (h .dictionary) n)) refl
-  holding-next (entry t text count fields) = go (firstBroken (entryRules (h .writer) t text count (take count fields) (length (h .payload)))) refl
+  holding-next (entry t text table) = go (firstBroken (entryRules (h .writer) t text (recordsIn table) (fieldsOf table) (length (h .payload)))) refl
     where
-      go : (v : Verdict) → firstBroken (entryRules (h .writer) t text count (take count fields) (length (h .payload))) ≡ v → After (entry t text count fields)
-      go sound e = rw e (kept (h .writer) (withEntry (h .writer) t (take count fields)) (h .dictionary) ns refl refl (λ x. x) g)
+      go : (v : Verdict) → firstBroken (entryRules (h .writer) t text (recordsIn table) (fieldsOf table) (length (h .payload))) ≡ v → After (entry t text table)
+      go sound e = rw e (kept (h .writer) (withEntry (h .writer) t (fieldsOf table)) (h .dictionary) ns refl refl (λ x. x) g)
       go (broken n p) e = rw e g
   holding-next (block a out) = go (firstBroken (blockRules (h .writer) a (length (h .table)) (length out))) refl
     where

@@ -251,7 +251,7 @@ module _ (table : List ℕ) (xs : List Adding) (ss : List Store) (h : Writing) w
   unfolding stores accepted
   stage-next (begin out) t g = begin-behind out g
   stage-next (name bytes) t g = behind-idle (name bytes) g (name-idle h bytes) refl refl
-  stage-next (entry u text count fields) t g = behind-idle (entry u text count fields) g (entry-idle h u text count fields) refl refl
+  stage-next (entry u text table) t g = behind-idle (entry u text table) g (entry-idle h u text table) refl refl
   stage-next (block a out) t g = block-behind a out t g
   stage-next (close plain stored out) t g = close-behind plain stored out g
 

@@ -19,7 +19,7 @@
 //   name ROOM HEX                number, and the name's number
 //   long-name ROOM LENGTH        the same of a name of so many letters, up to 65,536
 //   entry ROOM TIME HEX          entered; the bytes are the field count and the fields as they stand in a payload
-//   entry-count ROOM TIME COUNT  the same of an entry that claims so many nulls of name 0
+//   entry-count ROOM TIME COUNT  the same of an entry of so many nulls of name 0, up to 65,536; those behind 255 are of no meaning
 //   entry-part ROOM TIME ID PLACE LENGTH HEX    the same of an entry with one string, at a place in the text given
 //   block ROWS ROOM START NAMES PLAIN STORED    as begin; ROWS is how much of the rows is lent
 //   blocks N                     the last answer of N blocks of one entry of no fields, each at the end of the one before

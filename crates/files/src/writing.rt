@@ -1,4 +1,6 @@
 // The writer's calls, with the bytes that are lent to it, and the file that its stores are put in.
+ghost use mathlib.Core.Path.{_≡_};
+ghost use lib.ListN.{length};
 use crate::answers;
 use entries::Cursor;
 use entries::Field;
@@ -97,47 +99,85 @@ fn add_entry(
     s: Draft,
     room: usize,
     time: Epoch,
-    fields: [Field; 255],
-    count: usize,
+    fields: &[u8],
     text: &[u8],
     payload: &mut [u8],
 ) -> Draft {
     let w = s.writer;
     let n = text::reach(&*payload, 0, room);
-    let r = w.add_entry(&mut payload[..n], time, fields, count, text);
+    let r = w.add_entry(&mut payload[..n], time, fields, text);
     answers::entered(r);
     behind_entry(s, r)
 }
 
-// Nulls of name 0.
-fn nulls() -> [Field; 255] {
-    let null = Field {
-        id: 0,
-        value: Value::Null,
-    };
-    [null; 255]
+// A record: the number of a name, a type, and the bits of a value or the place and the length of a text.
+fn put_record(table: &mut [u8], i: u8, id: u16, kind: u8, bits: u64, len: u64) {
+    let at = i as usize * 24;
+    wire::put_u16(table, at, id);
+    wire::put_u8(table, at + 2, kind);
+    wire::put_u64(table, at + 8, bits);
+    wire::put_u64(table, at + 16, len);
+}
+
+fn bit(b: bool) -> u64 {
+    if b { 1 } else { 0 }
+}
+
+// The record of a field, which has these bits where it is a whole number.
+fn put_field(table: &mut [u8], i: u8, f: Field, bits: u64) {
+    let v = f.value;
+    match v {
+        Value::Text(p, n) => put_record(table, i, f.id, 0, p as u64, n as u64),
+        Value::Whole(_) => put_record(table, i, f.id, 1, bits, 0),
+        Value::Real(_, b) => put_record(table, i, f.id, 2, b, 0),
+        Value::Truth(b) => put_record(table, i, f.id, 3, bit(b), 0),
+        Value::Null => put_record(table, i, f.id, 4, 0, 0),
+        Value::Json(p, n) => put_record(table, i, f.id, 5, p as u64, n as u64),
+    }
+}
+
+// 255 nulls of name 0.
+fn put_nulls(table: &mut [u8]) {
+    let mut i: u8 = 0;
+    while i < 255 {
+        put_record(table, i, 0, 4, 0, 0);
+        i += 1;
+    }
+}
+
+// The eight bytes before a place.
+fn bits_before(s: &[u8], end: usize) -> u64 {
+    if end < 8 {
+        return 0;
+    }
+    wire::u64_at(s, end - 8)
 }
 
 // The fields behind a count, as many as can be read.
-fn fields_in(entry: &[u8]) -> [Field; 255] {
-    let mut fields = nulls();
+fn put_fields(table: &mut [u8], entry: &[u8]) {
     let mut at: usize = 1;
-    let mut i = 0;
+    let mut i: u8 = 0;
     while i < 255 {
         let c = Cursor { at };
         let step = c.field(entry, 65535);
         match step {
             FieldStep::Refused(_) => {
-                return fields;
+                return;
             }
             FieldStep::Field(f, next) => {
-                fields[i] = f;
+                put_field(table, i, f, bits_before(entry, next.at));
                 at = next.at;
                 i += 1;
             }
         }
     }
-    fields
+}
+
+// Zeros, for 65,536 records.
+fn records() -> [u8; 1572864]
+    ensures { λ r. ⌜ 1572864 ≡ length r ⌝ }
+{
+    [0; 1572864]
 }
 
 // An entry's count and fields, in hexadecimal; they are lent as the text that its fields have their texts in.
@@ -145,13 +185,22 @@ pub fn entry(s: Draft, room: usize, time: u64, hex: &[u8], payload: &mut [u8]) -
     let mut bytes = io::buffer();
     let n = text::unhex(hex, &mut bytes);
     let count = wire::u8_at(&bytes[..n], 0) as usize;
-    let fields = fields_in(&bytes[..n]);
-    add_entry(s, room, Epoch(time), fields, count, &bytes[..n], payload)
+    let mut table = io::large_buffer();
+    put_nulls(&mut table);
+    put_fields(&mut table, &bytes[..n]);
+    let fields = wire::part_at(&table, 0, count * 24);
+    add_entry(s, room, Epoch(time), fields, &bytes[..n], payload)
 }
 
-// An entry that claims so many fields.
+// An entry of so many fields, up to 65,536.
 pub fn entry_count(s: Draft, room: usize, time: u64, count: usize, payload: &mut [u8]) -> Draft {
-    add_entry(s, room, Epoch(time), nulls(), count, b"", payload)
+    let mut table = records();
+    put_nulls(&mut table);
+    if count < 65536 {
+        let fields = wire::part_at(&table, 0, count * 24);
+        return add_entry(s, room, Epoch(time), fields, b"", payload);
+    }
+    add_entry(s, room, Epoch(time), &table, b"", payload)
 }
 
 // An entry of one field, a string at a place in a text.
@@ -165,9 +214,10 @@ pub fn entry_part(
 ) -> Draft {
     let mut bytes = io::buffer();
     let n = text::unhex(hex, &mut bytes);
-    let mut fields = nulls();
-    fields[0] = field;
-    add_entry(s, room, Epoch(time), fields, 1, &bytes[..n], payload)
+    let mut table = io::buffer();
+    put_field(&mut table, 0, field, 0);
+    let fields = wire::part_at(&table, 0, 24);
+    add_entry(s, room, Epoch(time), fields, &bytes[..n], payload)
 }
 
 // What a block takes beside its bytes.

@@ -1,0 +1,2 @@
+-- The definition of an answer at the C edge. Assumes nothing.
+pub mod Answer

@@ -1,0 +1,28 @@
+-- Laws of repair and of the label at the C edge. Assumes nothing.
+use mathlib.Core.Path.{_≡_, sym}
+use mathlib.Core.List.{List}
+use Prim.Native.Nat.{ℕ}
+use Rattle.verdict.specs.Rules.{sound, broken, given, refused}
+use Rattle.repair.specs.Repair.{Kept, repairOf}
+use Rattle.label.specs.Label.{labelOf}
+use Rattle.answer.specs.declared.Answer.{Answer}
+use Rattle.answer.specs.Answer.{answered}
+use Rattle.host.specs.Whole.{hostRepairOf, hostLabelOf}
+
+module _ (log dictionary : List ℕ) (room : ℕ) (r : Answer) where
+  pub repair-refuses : (n p : ℕ) → refused n p ≡ repairOf log dictionary room → r ≡ answered (refused n p) → r ≡ hostRepairOf log dictionary room
+  unfolding hostRepairOf
+  repair-refuses n p e a = rw (sym e) a
+
+  pub repair-gives : (k : Kept) → given k ≡ repairOf log dictionary room → r ≡ answered (given (k .length)) → r ≡ hostRepairOf log dictionary room
+  unfolding hostRepairOf
+  repair-gives k e a = rw (sym e) a
+
+module _ (name : List ℕ) (room : ℕ) (r : Answer) where
+  pub label-refuses : (n p : ℕ) → broken n p ≡ labelOf name room → r ≡ answered (refused n p) → r ≡ hostLabelOf name room
+  unfolding hostLabelOf
+  label-refuses n p e a = rw (sym e) a
+
+  pub label-gives : sound ≡ labelOf name room → r ≡ answered (given 0) → r ≡ hostLabelOf name room
+  unfolding hostLabelOf
+  label-gives e a = rw (sym e) a

@@ -1,0 +1,34 @@
+-- Opening a file at the C edge. Assumes nothing.
+use mathlib.Core.List.{List, [], _∷_, _++_}
+use Prim.Native.Nat.{ℕ, _%_}
+use lib.ListN.{length}
+use Rattle.verdict.specs.Rules.{Rule, equal, atLeast, ifSound, firstBroken, settle}
+use Rattle.wire.specs.Wire.{le, splice}
+use Rattle.rows.specs.Rows.{stride, tableBytes}
+use Rattle.frame.specs.declared.Frame.{Frame}
+use Rattle.frame.specs.Frame.{frameOf}
+use Rattle.reader.specs.Open.{rowsIn, callRules}
+use Rattle.answer.specs.declared.Answer.{Answer}
+use Rattle.answer.specs.Answer.{answered}
+
+-- a length of rows that isn't a multiple of a row's: 6, place = that length
+abbrev pub wholeRows : ℕ → Rule
+wholeRows n = equal 6 n (n % stride) 0
+
+-- "five u64: dictionary place, its stored size, index place, first time, last time"
+unfoldable pub frameBytes : Frame → List ℕ
+frameBytes r = le 8 (r .dictionary) ++ (le 8 (r .stored) ++ (le 8 (r .index) ++ (le 8 (r .first .0) ++ le 8 (r .last .0))))
+
+-- then open's own, with 12 for the rows, and last 12 for the frame
+unfoldable pub hostOpenRules : (log : List ℕ) (rows frame : ℕ) → List Rule
+hostOpenRules log rows frame = wholeRows rows ∷ (callRules log rows ++ (atLeast 12 40 frame 40 ∷ []))
+
+unfoldable pub hostOpenOf : (log : List ℕ) (rows frame : ℕ) → Answer
+hostOpenOf log rows frame = answered (settle (firstBroken (hostOpenRules log rows frame)) (frameOf log .blocks))
+
+-- the lent rows and the lent frame afterwards
+unfoldable pub hostOpenRows : (log rows : List ℕ) (frame : ℕ) → List ℕ
+hostOpenRows log rows frame = ifSound (firstBroken (hostOpenRules log (length rows) frame)) (splice rows 0 (tableBytes (rowsIn log))) rows
+
+unfoldable pub hostOpenFrame : (log : List ℕ) (rows : ℕ) (frame : List ℕ) → List ℕ
+hostOpenFrame log rows frame = ifSound (firstBroken (hostOpenRules log rows (length frame))) (splice frame 0 (frameBytes (frameOf log))) frame

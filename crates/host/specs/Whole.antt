@@ -1,0 +1,16 @@
+-- Repair and the label at the C edge: the library's own, with their answers as numbers. Assumes nothing.
+use mathlib.Core.List.{List}
+use Prim.Native.Nat.{ℕ}
+use Rattle.verdict.specs.Rules.{given, onGiven, settle}
+use Rattle.repair.specs.Repair.{repairOf}
+use Rattle.label.specs.Label.{labelOf}
+use Rattle.answer.specs.declared.Answer.{Answer}
+use Rattle.answer.specs.Answer.{answered}
+
+-- count: the bytes of the finished file
+unfoldable pub hostRepairOf : (log dictionary : List ℕ) (room : ℕ) → Answer
+hostRepairOf log dictionary room = answered (onGiven (repairOf log dictionary room) (λ k. given (k .length)))
+
+-- "0 for the label"
+unfoldable pub hostLabelOf : (name : List ℕ) (room : ℕ) → Answer
+hostLabelOf name room = answered (settle (labelOf name room) 0)

@@ -1,0 +1,2 @@
+-- Laws of a listing as a struct. Assumes nothing.
+pub mod States

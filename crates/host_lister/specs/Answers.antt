@@ -1,0 +1,34 @@
+-- What the calls of the listing answer at the C edge. Assumes nothing.
+use mathlib.Core.List.{List}
+use mathlib.Core.Path.{_≡_}
+use Prim.Native.Nat.{ℕ}
+use Rattle.verdict.specs.Rules.{given, onGiven}
+use Rattle.contents.specs.Contents.{contentsOf}
+use Rattle.lister.specs.declared.Token.{Token}
+use Rattle.lister.specs.Tokens.{joined}
+use Rattle.lister.specs.Listing.{tokensFrom}
+use Rattle.lister.specs.Steps.{Rendered}
+use Rattle.input.specs.Printed.{printedOf}
+use Rattle.answer.specs.declared.Answer.{Answer}
+use Rattle.answer.specs.Answer.{answered}
+use Rattle.host_lister.specs.declared.Listing.{Listing}
+use Rattle.host_lister.specs.declared.Listed.{Listed}
+use Rattle.host_lister.specs.Listing.{stateIn}
+
+-- the tokens that a listing of a log and its book has left
+abbrev pub left : (log book : List ℕ) → Listing → List Token
+left log book l = tokensFrom log book (stateIn l)
+
+-- count: the entries
+unfoldable pub hostListOf : (log book : List ℕ) → Answer
+hostListOf log book = answered (onGiven (contentsOf log book) (λ t. given (t .entries)))
+
+-- the start: how the call answers, and what is left to write is what the listing program prints
+pub record Started (log book : List ℕ) (r : Listed) : Type 0 where
+  pub says : r .answer ≡ hostListOf log book
+  pub text : joined (left log book (r .next)) ≡ printedOf log book (contentsOf log book)
+
+-- a piece: never a refusal; as many whole tokens as fit are written, and the others are left
+pub record Went (log book : List ℕ) (from : Listing) (out : List ℕ) (r : Listed) (exit : List ℕ) : Type 0 where
+  pub says : r .answer ≡ answered (given (r .answer .count))
+  pub piece : Rendered (left log book from) out (left log book (r .next)) (r .answer .count) exit

@@ -1,0 +1,3 @@
+-- The definitions of the listing at the C edge. Assumes nothing.
+pub mod Listing
+pub mod Answers

@@ -1,0 +1,3 @@
+-- The definitions of the calls on plain bytes at the C edge. Assumes nothing.
+pub mod Names
+pub mod Steps

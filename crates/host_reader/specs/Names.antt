@@ -1,0 +1,21 @@
+-- Plain dictionaries at the C edge. Assumes nothing.
+use mathlib.Core.List.{List}
+use Prim.Native.Nat.{ℕ}
+use Rattle.verdict.specs.Rules.{Outcome, given, refused}
+use Rattle.names.specs.Dictionary.{dictionaryOf}
+use Rattle.lookup.specs.declared.Span.{Span}
+use Rattle.lookup.specs.Lookup.{lookupOf}
+use Rattle.answer.specs.declared.Answer.{Answer}
+use Rattle.answer.specs.Answer.{answered}
+
+-- count: the names
+unfoldable pub hostNamesOf : List ℕ → Answer
+hostNamesOf s = answered (dictionaryOf s)
+
+-- a name "as place and length"
+abbrev pub spanAnswer : Outcome Span → Answer
+spanAnswer (given p) = record { number = 0; place = p .place; count = p .length }
+spanAnswer (refused n p) = record { number = n; place = p; count = 0 }
+
+unfoldable pub hostNameOf : List ℕ → (i : ℕ) → Answer
+hostNameOf s i = spanAnswer (lookupOf s i)

@@ -1,0 +1,2 @@
+-- Laws of the writer's state as a struct. Assumes nothing.
+pub mod Turns

@@ -1,0 +1,3 @@
+-- The definitions of the writer's calls at the C edge. Assumes nothing.
+pub mod State
+pub mod Answers

@@ -1,0 +1,180 @@
+//! The paper's worked cases.
+
+use super::*;
+use crate::records::{Cursor, Writer};
+
+const PLAIN: [u8; 26] = [
+    0x00, 0x01, 0x01, 0x00, 0x01, 0x08, 0xD6, 0xFF, 0xFF, 0xFF, 0xFF, 0xFF, 0xFF, 0xFF, 0x05, 0x02, 0x00, 0x00, 0x00, 0x02, 0x42, 0x37, 0x01, 0x00,
+    0x04, 0x00,
+];
+const STORED: [u8; 3] = [0xAA, 0xBB, 0xCC];
+const DICTIONARY: &[u8] = b"\x02\0\0\0\0\0\x04\0site\x01\0\x03\0wet";
+
+/// The stores of the small file: first header, block, and the four of closing.
+fn small_stores() -> (Vec<u8>, Vec<u8>, Vec<u8>) {
+    let (mut first, mut block, mut last, mut rows) = (vec![0; 64], vec![0; 39], vec![0; 137], vec![0; 28]);
+    let begun = begin(writer_new(), &mut first);
+    let added = add_block(begun.next, &mut rows, &mut block, 1000, &PLAIN, &STORED, 2);
+    let closed = close(added.next, &rows, &mut last, DICTIONARY, &[0x5A]);
+    assert_eq!((begun.answer.count, added.answer.count, closed.answer.count), (64, 39, 137));
+    (first, block, last)
+}
+
+fn small_file() -> Vec<u8> {
+    let (_, block, last) = small_stores();
+    [&last[..64], &block, &last[64..]].concat()
+}
+
+fn chosen(t1: u64, t2: u64) -> Vec<u64> {
+    let mut rows = [0; 28];
+    Row { start: 1000, end: 1005, offset: 64, size: 3 }.put(&mut rows, 0);
+    let mut numbers = [0xEE; 4];
+    let answer = query(&rows, t1, t2, &mut numbers);
+    assert_eq!(answer.number, 0);
+    (0..answer.count as usize).map(|i| value_at(&numbers, 4 * i, 4)).collect()
+}
+
+#[test]
+fn the_checksum_is_that_of_the_published_vector() {
+    assert_eq!(checksum(b"123456789"), 0xCBF4_3926);
+    assert_eq!(checksum(b""), 0);
+}
+
+#[test]
+fn k1_varint_300() {
+    let step = delta(&[0xAC, 0x02], Cursor { at: 0 });
+    assert_eq!((step.number, step.value, step.next.at), (0, 300, 2));
+}
+
+#[test]
+fn k2_the_largest_varint() {
+    let mut bytes = [0xFF; 10];
+    bytes[9] = 1;
+    assert_eq!(delta(&bytes, Cursor { at: 0 }).value, u64::MAX);
+}
+
+#[test]
+fn k3_a_tenth_byte_of_two() {
+    let mut bytes = [0xFF; 10];
+    bytes[9] = 2;
+    let step = delta(&bytes, Cursor { at: 0 });
+    assert_eq!((step.number, step.place), (11, 0));
+    let cut = delta(&bytes[..9], Cursor { at: 0 });
+    assert_eq!((cut.number, cut.place), (11, 9));
+}
+
+#[test]
+fn k4_the_field_at_byte_two() {
+    let step = field(&PLAIN, 2, Cursor { at: 2 });
+    assert_eq!((step.number, step.id, step.kind, step.bits as i64, step.next.at), (0, 1, 1, -42, 14));
+}
+
+#[test]
+fn k5_ranges_up_to_the_start() {
+    assert_eq!(chosen(0, 999), []);
+    assert_eq!(chosen(0, 1000), [0]);
+}
+
+#[test]
+fn k6_ranges_from_the_end() {
+    assert_eq!(chosen(1006, 2000), []);
+    assert_eq!(chosen(1005, 2000), [0]);
+}
+
+#[test]
+fn k7_thirty_seconds() {
+    assert!(belongs(1000, 30_000_000_999));
+    assert!(!belongs(1000, 30_000_001_000));
+    let open = Writer { turn: 1, length: 64, start: 1000, last: 1000, plain: 2, ..Writer::default() };
+    let mut payload = [0; 20];
+    assert_eq!(add_entry(open, &mut payload, 30_000_000_999, &[], &[]).answer.number, 0);
+    let refused = add_entry(open, &mut payload, 30_000_001_000, &[], &[]).answer;
+    assert_eq!((refused.number, refused.place), (13, 30_000_001_000));
+}
+
+#[test]
+fn k8_labels() {
+    let mut panel = [0; 16];
+    assert_eq!(label(b"abcdefghijklmnop", &mut panel).number, 0);
+    assert_eq!(&panel, b"abcdefghijklmnop");
+    let refused = label(b"abcdefghijklmnopq", &mut panel);
+    assert_eq!((refused.number, refused.place), (15, 16));
+    assert_eq!(label(b"wet", &mut panel).number, 0);
+    assert_eq!(&panel, b"wet             ");
+}
+
+#[test]
+fn k9_the_small_file_cut() {
+    let (first, block, _) = small_stores();
+    let unclosed = [first, block].concat();
+    for (length, blocks) in [(102, 0), (103, 1)] {
+        let mut rows = [0; 28];
+        let mut report = [0; 32];
+        let answer = recover(&unclosed[..length], &mut rows, &mut report);
+        assert_eq!((answer.number, answer.count), (0, blocks));
+    }
+}
+
+#[test]
+fn the_small_file() {
+    let file = small_file();
+    assert_eq!(file.len(), 176);
+    let (rows, frame) = opened(&file).expect("the small file opens");
+    assert_eq!(rows, [Row { start: 1000, end: 1005, offset: 64, size: 3 }]);
+    assert_eq!(frame, Frame { dictionary: 103, stored: 1, index: 108, first: 1000, last: 1005 });
+}
+
+#[test]
+fn the_small_file_lists_as_three_lines() {
+    let mut book = b"PLB\x01\0\x1A\0\0\0".to_vec();
+    book.extend(PLAIN);
+    book.extend([DICTIONARY.len() as u8, 0, 0, 0]);
+    book.extend(DICTIONARY);
+    let (answer, text) = listing(&small_file(), &book);
+    assert_eq!((answer.number, answer.count), (0, 2));
+    assert_eq!(String::from_utf8(text).expect("ASCII"), "blocks 1 entries 2\n1000 wet=i:-42\n1005 site=s:\"B7\" wet=n\n");
+}
+
+#[test]
+fn repair_of_a_cut_small_file_gives_it_back() {
+    let (first, block, _) = small_stores();
+    let mut out = [0; 176];
+    let answer = repair(&[first, block].concat(), &[0x5A], &mut out);
+    assert_eq!((answer.number, answer.count), (0, 176));
+    assert_eq!(out.as_slice(), small_file());
+}
+
+#[test]
+fn packed_entries_are_the_small_files_plain_bytes() {
+    let mut state = begin(writer_new(), &mut [0; 64]).next;
+    let mut dictionary = [0; 19];
+    for (name, number) in [(&b"site"[..], 0), (b"wet", 1), (b"site", 0)] {
+        let added = add_name(state, &mut dictionary, name);
+        assert_eq!((added.answer.number, added.answer.count), (0, number));
+        state = added.next;
+    }
+    assert_eq!(dictionary, DICTIONARY);
+    let record = |id: u64, kind: u64, bits: u64, length: u64| {
+        let mut field = [0; FIELD];
+        put(&mut field, 0, 2, id);
+        put(&mut field, 2, 1, kind);
+        put(&mut field, 8, 8, bits);
+        put(&mut field, 16, 8, length);
+        field
+    };
+    let mut payload = [0; 26];
+    state = add_entry(state, &mut payload, 1000, &record(1, 1, -42i64 as u64, 0), b"").next;
+    let both = [record(0, 0, 1, 2), record(1, 4, 0, 0)].concat();
+    state = add_entry(state, &mut payload, 1005, &both, b"xB7").next;
+    assert_eq!((state.plain, payload), (26, PLAIN));
+}
+
+#[test]
+fn shapes_of_utf8() {
+    for good in [&b""[..], b"a\x7F", b"\xC0\x80", b"\xDF\xBF", b"\xE0\x80\x80", b"\xF7\xBF\xBF\xBF"] {
+        assert!(is_utf8(good), "{good:?}");
+    }
+    for bad in [&b"\x80"[..], b"\xBF", b"\xC0", b"\xC0\x7F", b"\xC0\xC0", b"\xE0\x80", b"\xF0\x80\x80", b"\xF8\x80\x80\x80\x80", b"\xFF"] {
+        assert!(!is_utf8(bad), "{bad:?}");
+    }
+}
