@@ -1,9 +1,26 @@
-//! Tells the linker where libhplog.a is: in the directory that HPLOG_LIB names.
+//! Tells the linker where libhplog.a is, in the directory that HPLOG_LIB names, and builds the benchmarks' peer in C.
+
+use std::process::Command;
+
+/// Compiles one file of C into a static library of its own.
+fn archive(source: &str, name: &str) {
+    let directory = std::env::var("OUT_DIR").expect("cargo says where");
+    let (object, library) = (format!("{directory}/{name}.o"), format!("{directory}/lib{name}.a"));
+    let compiled = Command::new("gcc").args(["-std=c99", "-O3", "-c", source, "-o", &object]).status();
+    assert!(compiled.is_ok_and(|status| status.success()), "gcc {source}");
+    let archived = Command::new("ar").args(["rcs", &library, &object]).status();
+    assert!(archived.is_ok_and(|status| status.success()), "ar {library}");
+    println!("cargo:rustc-link-search=native={directory}");
+    println!("cargo:rerun-if-changed={source}");
+}
 
 fn main() {
     println!("cargo:rerun-if-env-changed=HPLOG_LIB");
     if let Ok(directory) = std::env::var("HPLOG_LIB") {
         println!("cargo:rustc-link-search=native={directory}");
         println!("cargo:rerun-if-changed={directory}/libhplog.a");
+    }
+    if std::env::var_os("CARGO_FEATURE_BENCH").is_some() {
+        archive("src/bin/bench/plain.c", "plain");
     }
 }

@@ -1,0 +1,104 @@
+#include "blocks.h"
+
+#include "bytes.h"
+#include "calendar.h"
+#include "hplog.h"
+#include "message.h"
+#include "text.h"
+
+#include <stdio.h>
+#include <stdlib.h>
+#include <string.h>
+
+enum { NUMBER, OFFSET, STORED, PLAIN, ENTRIES, START, END, COLUMNS };
+
+typedef struct {
+    uint64_t values[COLUMNS];
+} block;
+
+static const char *const headings[COLUMNS] = {"block", "offset", "stored", "plain", "entries", "start", "end"};
+
+uint8_t *blocks_rows(const input *log, size_t *length)
+{
+    size_t most = log->length > HPLOG_HEADER ? (log->length - HPLOG_HEADER) / HPLOG_BLOCK_HEADER : 0;
+    *length = (most < HPLOG_BLOCKS ? most : HPLOG_BLOCKS) * HPLOG_ROW;
+    /* A call takes no null pointer, so there is always a byte. */
+    uint8_t *rows = malloc(*length + 1);
+    if (rows == NULL)
+        message_error(log->name);
+    return rows;
+}
+
+/* The block in place i of those to print. A row's block has a whole header in the file. */
+static block block_at(const input *log, const uint8_t *rows, const uint8_t *numbers, size_t i)
+{
+    uint64_t number = numbers == NULL ? i : bytes_u32(numbers + 4 * i);
+    const uint8_t *row = rows + number * HPLOG_ROW;
+    const uint8_t *header = log->bytes + bytes_u64(row + 16);
+    return (block){{
+        [NUMBER] = number,
+        [OFFSET] = bytes_u64(row + 16),
+        [STORED] = bytes_u32(row + 24),
+        [PLAIN] = bytes_u32(header + 28),
+        [ENTRIES] = bytes_u32(header + 20),
+        [START] = bytes_u64(row),
+        [END] = bytes_u64(row + 8),
+    }};
+}
+
+static const char *cell(const block *b, int column, char text[CALENDAR_TEXT])
+{
+    if (column < START)
+        return text_number(b->values[column], text);
+    calendar_format(b->values[column], text);
+    return text;
+}
+
+static void print_plain(const block *b)
+{
+    fputs("block", stdout);
+    for (int c = 0; c < COLUMNS; c++)
+        printf(" %llu", (unsigned long long)b->values[c]);
+    putchar('\n');
+}
+
+static void print_cells(const int *widths, const block *b)
+{
+    char text[CALENDAR_TEXT];
+    for (int c = 0; c < START; c++)
+        printf("%*s  ", widths[c], b == NULL ? headings[c] : cell(b, c, text));
+    printf("%-*s  ", widths[START], b == NULL ? headings[START] : cell(b, START, text));
+    printf("%s\n", b == NULL ? headings[END] : cell(b, END, text));
+}
+
+static void print_headings(const int *widths)
+{
+    bool is_bold = text_colours(stdout);
+    fputs(is_bold ? "\033[1m" : "", stdout);
+    print_cells(widths, NULL);
+    fputs(is_bold ? "\033[0m" : "", stdout);
+}
+
+void blocks_print(const input *log, const uint8_t *rows, const uint8_t *numbers, size_t count, bool is_plain)
+{
+    char text[CALENDAR_TEXT];
+    int widths[COLUMNS];
+    for (int c = 0; c < COLUMNS; c++)
+        widths[c] = (int)strlen(headings[c]);
+    for (size_t i = 0; i < count; i++) {
+        block b = block_at(log, rows, numbers, i);
+        for (int c = 0; c < COLUMNS; c++) {
+            int width = (int)strlen(cell(&b, c, text));
+            widths[c] = width > widths[c] ? width : widths[c];
+        }
+    }
+    if (!is_plain && count > 0)
+        print_headings(widths);
+    for (size_t i = 0; i < count; i++) {
+        block b = block_at(log, rows, numbers, i);
+        if (is_plain)
+            print_plain(&b);
+        else
+            print_cells(widths, &b);
+    }
+}

@@ -1,0 +1,94 @@
+"""Runs the command as a user would, and compares what it does."""
+
+import os
+import pty
+import re
+import subprocess
+import sys
+from dataclasses import dataclass, field
+from pathlib import Path
+
+# A command that has to answer quickly is ended after so many seconds, which is a failure.
+LIMIT = 120
+
+
+@dataclass
+class Result:
+    status: int
+    out: bytes
+    err: bytes
+
+
+@dataclass
+class Suite:
+    command: list  # the words that start the command
+    folder: Path  # an empty folder to work in
+    passed: int = 0
+    failures: list = field(default_factory=list)
+
+    def path(self, name, content=None):
+        """A path in the folder, with this content where it is given."""
+        path = self.folder / name
+        if content is not None:
+            path.write_bytes(content)
+        return str(path)
+
+    def start(self, *words, **keywords):
+        environment = {**os.environ, "LC_ALL": "C", **keywords.pop("env", {})}
+        return subprocess.Popen([*self.command, *words], stdout=subprocess.PIPE, stderr=subprocess.PIPE, env=environment, **keywords)
+
+    def run(self, *words, stdin=b"", **keywords):
+        source = {"stdin": subprocess.PIPE, "input": stdin} if isinstance(stdin, bytes) else {"stdin": stdin, "input": None}
+        process = self.start(*words, stdin=source["stdin"], **keywords)
+        out, err = process.communicate(source["input"], timeout=LIMIT)
+        return Result(process.returncode, out, err)
+
+    def run_to(self, out, *words):
+        """Runs the command with its standard output sent elsewhere; gives status and standard error back."""
+        environment = {**os.environ, "LC_ALL": "C"}
+        streams = {"stdin": subprocess.DEVNULL, "stdout": out, "stderr": subprocess.PIPE}
+        process = subprocess.run([*self.command, *words], **streams, env=environment, timeout=LIMIT)
+        return process.returncode, process.stderr
+
+    def holds(self, what, condition, shown=""):
+        if condition:
+            self.passed += 1
+        else:
+            self.failures.append(what)
+            print(f"FAILED  {what}  {shown}", file=sys.stderr)
+
+    def expect(self, words, status=0, out=b"", err=b"", **keywords):
+        """Runs the command; out and err are the exact bytes, or a compiled pattern that matches them whole."""
+        result = self.run(*words, **keywords)
+        what = "hplog " + " ".join(words)
+        self.holds(f"{what}: status", result.status == status, f"{result.status}, not {status}: {result.err!r}")
+        for name, got, wanted in (("out", result.out, out), ("err", result.err, err)):
+            if isinstance(wanted, re.Pattern):
+                self.holds(f"{what}: {name}", wanted.fullmatch(got) is not None, f"{got!r} is not like {wanted.pattern!r}")
+            else:
+                self.holds(f"{what}: {name}", got == wanted, f"{got!r}, not {wanted!r}")
+        return result
+
+    def refused(self, words, number, place, name, text, **keywords):
+        """Expects a refusal: status 1, nothing on standard output, one line on standard error."""
+        line = f"hplog: refused {number} {place}: {name}: {text}\n"
+        return self.expect(words, 1, b"", line.encode(), **keywords)
+
+    def wrong(self, words, **keywords):
+        """Expects status 2, nothing on standard output and one line on standard error."""
+        return self.expect(words, 2, b"", re.compile(rb"hplog[^\n]*\n"), **keywords)
+
+    def terminal(self, *words, env=None):
+        """Runs the command on a terminal; gives the status and all that it wrote there."""
+        master, slave = pty.openpty()
+        environment = {**os.environ, "TERM": "xterm", "LC_ALL": "C", **(env or {})}
+        process = subprocess.Popen([*self.command, *words], stdin=subprocess.DEVNULL, stdout=slave, stderr=slave, env=environment)
+        os.close(slave)
+        text = b""
+        try:
+            while piece := os.read(master, 4096):
+                text += piece
+        except OSError:
+            pass  # a terminal whose last writer has gone answers with an error
+        os.close(master)
+        return process.wait(LIMIT), text.replace(b"\r\n", b"\n")

@@ -1,0 +1,28 @@
+//! Times the library against peers in the same run: zlib's crc32 and memcpy on the same bytes, a plain C loop, and the implementation in Rust.
+//! Prints a table, and writes the ratios as a plot to the file that is named.
+
+#[path = "../../edge.rs"]
+#[allow(dead_code)]
+mod edge;
+mod files;
+mod measure;
+mod peers;
+mod plot;
+mod writing;
+
+use measure::Line;
+
+fn main() {
+    let plot = std::env::args().nth(1);
+    let mut lines: Vec<Line> = Vec::new();
+    files::open_recover_repair(&mut lines);
+    files::query(&mut lines);
+    files::listing(&mut lines);
+    writing::dictionary(&mut lines);
+    writing::entries(&mut lines);
+    writing::blocks(&mut lines);
+    measure::table(&lines);
+    if let Some(path) = plot {
+        std::fs::write(&path, plot::svg(&lines)).unwrap_or_else(|error| panic!("{path}: {error}"));
+    }
+}
