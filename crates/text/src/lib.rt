@@ -151,3 +151,32 @@ pub fn number(s: &[u8]) -> u64 {
     }
     n
 }
+
+// The number that the word behind so many spaces spells.
+pub fn number_at(line: &[u8], i: usize) -> u64 {
+    number(word(line, i))
+}
+
+pub fn size_at(line: &[u8], i: usize) -> usize {
+    number_at(line, i) as usize
+}
+
+// The number of a name among the first 32 of names with a space between them, or 32.
+pub fn place(names: &[u8], name: &[u8]) -> usize {
+    let mut i = 0;
+    while i < 32 {
+        if wire::equal(word(names, i), name) {
+            return i;
+        }
+        i += 1;
+    }
+    i
+}
+
+// Whether a line isn't empty and doesn't start with '#'.
+pub fn is_command(line: &[u8]) -> bool {
+    if line.len() == 0 {
+        return false;
+    }
+    line[0] != b'#'
+}
