@@ -1,4 +1,5 @@
 // What the library answers to an input, as text in a buffer: each function says how long the text is.
+use crate::held;
 use entries::Entries;
 use label::Labelled;
 use lookup::Located;
@@ -200,6 +201,15 @@ fn wide(x: u32) -> u64 {
     x as u64
 }
 
+fn queried(q: Queried, numbers: &[u32], out: &mut [u8]) -> usize
+    ensures { λ r. ⌜ Counts r (now (out .exit)) ⌝ }
+{
+    match q {
+        Queried::Listed(n) => chosen(n, numbers, out),
+        Queried::Refused(r) => text::with_refusal(out, r),
+    }
+}
+
 pub fn query(s: &[u8], out: &mut [u8]) -> usize
     ensures { λ r. ⌜ Counts r (now (out .exit)) ⌝ }
 {
@@ -208,10 +218,18 @@ pub fn query(s: &[u8], out: &mut [u8]) -> usize
     let table = wire::part_at(s, 16, s.len());
     let mut numbers = [4_294_967_295u32; 4];
     let q = query::query(table, table.len() / 28, from, to, &mut numbers);
-    match q {
-        Queried::Listed(n) => chosen(n, &numbers, out),
-        Queried::Refused(r) => text::with_refusal(out, r),
-    }
+    queried(q, &numbers, out)
+}
+
+pub fn slices(s: &[u8], out: &mut [u8]) -> usize
+    ensures { λ r. ⌜ Counts r (now (out .exit)) ⌝ }
+{
+    let from = Epoch(wire::u64_at(s, 0));
+    let to = Epoch(wire::u64_at(s, 8));
+    let table = wire::part_at(s, 16, s.len());
+    let mut numbers = [4_294_967_295u32; 4];
+    let q = held::ask(table, from, to, &mut numbers);
+    queried(q, &numbers, out)
 }
 
 pub fn entries(s: &[u8], out: &mut [u8]) -> usize

@@ -15,6 +15,7 @@ pub enum Group {
     Name,
     Number,
     Query,
+    Slices,
     Entries,
     Recover,
     Unknown,
@@ -29,6 +30,9 @@ fn other_named(name: &[u8]) -> Group {
     }
     if wire::equal(name, b"varint") {
         return Group::Varint;
+    }
+    if wire::equal(name, b"slices") {
+        return Group::Slices;
     }
     if wire::equal(name, b"entries") {
         return Group::Entries;
@@ -79,6 +83,7 @@ pub fn answer(group: Group, s: &[u8], out: &mut [u8]) -> usize
         Group::Name => answers::name(s, out),
         Group::Number => answers::number(s, out),
         Group::Query => answers::query(s, out),
+        Group::Slices => answers::slices(s, out),
         Group::Entries => answers::entries(s, out),
         Group::Recover => answers::recover(s, out),
         Group::Unknown => text::with(out, 0, b"no such group"),
@@ -87,7 +92,7 @@ pub fn answer(group: Group, s: &[u8], out: &mut [u8]) -> usize
 
 // A group's place in a tally.
 fn place(group: Group) -> usize
-    ensures { λ r. ⌜ r < 13 ⌝ }
+    ensures { λ r. ⌜ r < 14 ⌝ }
 {
     match group {
         Group::Crc32 => 0,
@@ -100,22 +105,23 @@ fn place(group: Group) -> usize
         Group::Name => 7,
         Group::Number => 8,
         Group::Query => 9,
-        Group::Entries => 10,
-        Group::Recover => 11,
-        Group::Unknown => 12,
+        Group::Slices => 10,
+        Group::Entries => 11,
+        Group::Recover => 12,
+        Group::Unknown => 13,
     }
 }
 
 // How many cases each group has, and how many of them agree.
 pub struct Tally {
-    pub agree: [u64; 13],
-    pub cases: [u64; 13],
+    pub agree: [u64; 14],
+    pub cases: [u64; 14],
 }
 
 pub fn none() -> Tally {
     Tally {
-        agree: [0; 13],
-        cases: [0; 13],
+        agree: [0; 14],
+        cases: [0; 14],
     }
 }
 
@@ -152,6 +158,7 @@ pub fn report(t: Tally) {
     print_count(b"name", t, Group::Name);
     print_count(b"number", t, Group::Number);
     print_count(b"query", t, Group::Query);
+    print_count(b"slices", t, Group::Slices);
     print_count(b"entries", t, Group::Entries);
     print_count(b"recover", t, Group::Recover);
     print_count(b"no such group", t, Group::Unknown);

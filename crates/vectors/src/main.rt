@@ -15,9 +15,11 @@
 //   recover of a file: how many blocks, the end of the last, the number and place that stopped the scan, whether the dictionary is whole, and a
 //           lent table of 60 bytes AA afterwards; or the refusal
 //   query   of two times (u64 each) and a table of rows: the numbers of the blocks chosen, or the refusal
+//   slices  the same, over the rows as a slice of structs
 // It prints how many cases of each group agree, and before that each case that doesn't, with the answer that the library gave.
 mod answers;
 mod groups;
+mod held;
 
 use groups::Tally;
 use libc::STDIN_FILENO;
