@@ -52,7 +52,7 @@ fn against_both(lines: &mut Vec<Line>, call: &'static str, size: usize, blocks: 
     });
     let memcpy = shortest(|| black_box(&mut copy).copy_from_slice(black_box(file)));
     for (peer, theirs) in [("zlib crc32", checksum), ("memcpy", memcpy)] {
-        lines.push(Line { call, shape: shape(size, blocks), scale: size as f64, peer, ours, theirs });
+        lines.push(Line { call, shape: shape(size, blocks), peer, ours, theirs });
     }
 }
 
@@ -96,7 +96,7 @@ pub fn query(lines: &mut Vec<Line>) {
         let theirs = shortest(|| {
             black_box(peers::query(black_box(&rows), t1, t2, &mut numbers));
         });
-        lines.push(Line { call: "query", shape: format!("{count} rows"), scale: count as f64, peer: "plain C loop", ours, theirs });
+        lines.push(Line { call: "query", shape: format!("{count} rows"), peer: "plain C loop", ours, theirs });
     }
 }
 
@@ -127,6 +127,6 @@ pub fn listing(lines: &mut Vec<Line>) {
             black_box(reference::listing(black_box(&made.log), black_box(&book)));
         });
         let size = made.log.len() + book.len();
-        lines.push(Line { call: "listing", shape: format!("{} KiB, {blocks} blocks", size / KIB), scale: size as f64, peer: "Rust", ours, theirs });
+        lines.push(Line { call: "listing", shape: format!("{} KiB, {blocks} blocks", size / KIB), peer: "Rust", ours, theirs });
     }
 }

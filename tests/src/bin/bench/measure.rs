@@ -7,7 +7,7 @@ pub struct Line {
     pub call: &'static str,
     /// What grows, as printed and as a number.
     pub shape: String,
-    pub scale: f64,
+    pub
     pub peer: &'static str,
     pub ours: f64,
     pub theirs: f64,

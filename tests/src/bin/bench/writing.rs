@@ -18,7 +18,7 @@ pub fn dictionary(lines: &mut Vec<Line>) {
         let theirs = shortest(|| {
             black_box(reference::names(black_box(&dictionary)));
         });
-        lines.push(Line { call: "names", shape: format!("{count} names"), scale: count as f64, peer: "Rust", ours, theirs });
+        lines.push(Line { call: "names", shape: format!("{count} names"), peer: "Rust", ours, theirs });
     }
 }
 
@@ -53,7 +53,7 @@ pub fn entries(lines: &mut Vec<Line>) {
         let mut payload = vec![0; 64 * count as usize];
         let ours = shortest(|| fill(begun, count, &mut payload, |state, out, time| edge::add_entry(state, out, time, &fields, b"B7")));
         let theirs = shortest(|| fill(begun, count, &mut payload, |state, out, time| reference::add_entry(state, out, time, &fields, b"B7")));
-        lines.push(Line { call: "add_entry", shape: format!("{count} entries"), scale: count as f64, peer: "Rust", ours, theirs });
+        lines.push(Line { call: "add_entry", shape: format!("{count} entries"), peer: "Rust", ours, theirs });
     }
 }
 
@@ -69,6 +69,6 @@ pub fn blocks(lines: &mut Vec<Line>) {
         let theirs = shortest(|| {
             black_box(reference::add_block(begun, &mut rows, &mut out, 5, &[0, 0], black_box(&stored), 0));
         });
-        lines.push(Line { call: "add_block", shape: format!("{size} bytes"), scale: size as f64, peer: "Rust", ours, theirs });
+        lines.push(Line { call: "add_block", shape: format!("{size} bytes"), peer: "Rust", ours, theirs });
     }
 }
