@@ -5,9 +5,8 @@ use std::time::Instant;
 /// One call, at one size, against one peer.
 pub struct Line {
     pub call: &'static str,
-    /// What grows, as printed and as a number.
+    /// What grows.
     pub shape: String,
-    pub
     pub peer: &'static str,
     pub ours: f64,
     pub theirs: f64,
