@@ -5,13 +5,15 @@ use Prim.Native.Nat.{ℕ, zero, suc, _+_, _-_, _*_, _/_, _%_, _^_, _<_, _≤_}
 use native.Mathlib.Nat.{add-zero, add-suc, add-assoc, div-one, div-div-eq-div-mul, mod-eq-of-lt, pow-suc, pow-succ', one-le-pow}
 use native.Mathlib.Numerals.{add-one}
 use native.Mathlib.Omega.{arith}
+use borrow.Author.Tests.{lt-ltb, le-ltb}
 use lib.Arith.{mod-mul, digits-div, digits-mod}
 use lib.Dec.{lit<}
 use lib.ListN.{length, getD, drop, drop-of-length-le}
 use lib.Seq.{drop-cons, drop-drop}
 use lib.Bits.{bitXor, xor-shr, xor-mod, xor-zero-r}
 use Rattle.wire.specs.Wire.{leAt}
-use Rattle.crc32.specs.Tables.{byteBy, bytesBy, sliced, sixteensBy, checksumBy}
+use Rattle.crc32.specs.Fold.{reduced}
+use Rattle.crc32.specs.Tables.{byteBy, bytesBy, sliced, sixteensBy, registerBy, checksumBy}
 use Rattle.crc32.proofs.Xor.{xor-swap}
 
 module _ (t : List ℕ) where
@@ -78,7 +80,15 @@ module _ (t : List ℕ) where
     bytes-end h = rw (drop-of-length-le s h)
 
   -- the two runs end to end
-  pub checksum-parts : (s : List ℕ) (c r : ℕ) → c ≡ sixteensBy t (length s / 16) 0xFFFFFFFF s → r ≡ bytesBy t c (drop (length s / 16 * 16) s)
-      → bitXor r 0xFFFFFFFF ≡ checksumBy t s
+  pub register-parts : (s : List ℕ) (start c r : ℕ) → c ≡ sixteensBy t (length s / 16) start s → r ≡ bytesBy t c (drop (length s / 16 * 16) s) → r ≡ registerBy t start s
+  unfolding registerBy
+  register-parts s start c r e f = rw (f, e)
+
+  -- the checksum of a short input, and of a long one by what it's folded to
+  pub checksum-short : (s : List ℕ) (r : ℕ) → length s < 512 → r ≡ registerBy t 0xFFFFFFFF s → bitXor r 0xFFFFFFFF ≡ checksumBy t s
   unfolding checksumBy
-  checksum-parts s c r e f = rw (f, e)
+  checksum-short s r h e = rw (lt-ltb (length s) 512 h, e)
+
+  pub checksum-long : (s rest : List ℕ) (r : ℕ) → 512 ≤ length s → rest ≡ reduced s → r ≡ registerBy t 0 rest → bitXor r 0xFFFFFFFF ≡ checksumBy t s
+  unfolding checksumBy
+  checksum-long s rest r h f e = rw (le-ltb (length s) 512 h, e, f)

@@ -3,7 +3,9 @@ use mathlib.Core.Path.{_≡_, refl, sym, ap, ap₂, _∙_}
 use mathlib.Core.List.{List, [], _∷_}
 use Prim.Native.Nat.{ℕ, zero, suc, _+_, _*_, _/_, _%_, _^_, _<_, _≤_}
 use native.Mathlib.Nat.{zero-add, pow-suc, lt-of-lt-of-le}
+use native.Mathlib.Decide.{decLe}
 use native.Mathlib.Omega.{arith}
+use borrow.Author.Tests.{lt-ltb, le-ltb}
 use lib.Dec.{lit<, lit≤}
 use lib.ListN.{length, getD, take, drop, take-append-drop, length-drop}
 use lib.Seq.{take-add}
@@ -12,25 +14,28 @@ use Rattle.wire.specs.Wire.{Bytes, fromLe}
 use Rattle.wire.proofs.Lists.{bytes-drop, bytes-take}
 use Rattle.wire.proofs.Numbers.{fromLe-below}
 use Rattle.crc32.specs.Crc.{steps, byteStep, crcFrom, crc32}
-use Rattle.crc32.specs.Tables.{Tables, byteBy, bytesBy, sliced, sixteensBy, checksumBy}
+use Rattle.crc32.specs.Fold.{reduced}
+use Rattle.crc32.specs.Tables.{Tables, byteBy, bytesBy, sliced, sixteensBy, registerBy, checksumBy}
 use Rattle.crc32.proofs.Steps.{low-out, steps-zero}
 use Rattle.crc32.proofs.Register.{crc-append, crc-small, word}
+use Rattle.crc32.proofs.Fold.{reduced-crc, bytes-reduced}
 
--- one byte, by a list that starts with the first table
-pub byte-tabled : (t : List ℕ) → ((b : ℕ) → b < 256 → getD t b 0 ≡ steps 8 b) → (c b : ℕ) → byteBy t c b ≡ byteStep c b
-unfolding byteBy byteStep steps
-byte-tabled t first c b =
-    let x = bitXor c b in
-    ap (λ (y : ℕ). bitXor y (x / 256)) (first (x % 256) (omega arith)) ∙ sym (low-out 8 0 x)
+-- by a list that starts with the first table: one byte, and a list of them
+module _ (t : List ℕ) (first : (b : ℕ) → b < 256 → getD t b 0 ≡ steps 8 b) where
+  pub byte-tabled : (c b : ℕ) → byteBy t c b ≡ byteStep c b
+  unfolding byteBy byteStep steps
+  byte-tabled c b =
+      let x = bitXor c b in
+      ap (λ (y : ℕ). bitXor y (x / 256)) (first (x % 256) (omega arith)) ∙ sym (low-out 8 0 x)
+
+  pub bytes-tabled : (c : ℕ) (s : List ℕ) → bytesBy t c s ≡ crcFrom c s
+  unfolding bytesBy crcFrom
+  bytes-tabled c [] = refl
+  bytes-tabled c (b ∷ s) = ap (λ (x : ℕ). bytesBy t x s) (byte-tabled c b) ∙ bytes-tabled (byteStep c b) s
 
 module _ (t : List ℕ) (holds : Tables t) where
   first : (b : ℕ) → b < 256 → getD t b 0 ≡ steps 8 b
   first b h = ap (λ (i : ℕ). getD t i 0) (sym (zero-add b)) ∙ holds .entry 0 b (lit< tt) h
-
-  bytes-tabled : (c : ℕ) (s : List ℕ) → bytesBy t c s ≡ crcFrom c s
-  unfolding bytesBy crcFrom
-  bytes-tabled c [] = refl
-  bytes-tabled c (b ∷ s) = ap (λ (x : ℕ). bytesBy t x s) (byte-tabled t first c b) ∙ bytes-tabled (byteStep c b) s
 
   -- w bytes from table k are 8 (k + w) steps
   pub sliced-tabled : (k w v : ℕ) → k + w ≤ 16 → v < 256 ^ w → sliced t k w v ≡ steps ((k + w) * 8) v
@@ -59,12 +64,24 @@ module _ (t : List ℕ) (holds : Tables t) where
       ∙ sixteens-tabled n (crcFrom c (take 16 s)) (drop 16 s) (crc-small c (take 16 s) h (bytes-take 16 s b)) (bytes-drop 16 s b) (omega (arith, length-drop 16 s))
       ∙ sym (ap (λ (m : ℕ). crcFrom c (take m s)) e ∙ ap (crcFrom c) (take-add 16 (n * 16) s) ∙ crc-append c (take 16 s) (take (n * 16) (drop 16 s)))
 
+  -- all whole sixteens, and then the bytes behind them
+  register-tabled : (c : ℕ) (s : List ℕ) → c < 2 ^ 32 → Bytes s → registerBy t c s ≡ crcFrom c s
+  unfolding registerBy
+  register-tabled c s h b =
+      let m = length s / 16 * 16 in
+      bytes-tabled t first (sixteensBy t (length s / 16) c s) (drop m s)
+      ∙ ap (λ (x : ℕ). crcFrom x (drop m s)) (sixteens-tabled (length s / 16) c s h b (omega arith))
+      ∙ sym (crc-append c (take m s) (drop m s)) ∙ ap (crcFrom c) (take-append-drop m s)
+
 -- the law that callers of `checksum_with` use
 pub tabled : (t s : List ℕ) → Tables t → Bytes s → checksumBy t s ≡ crc32 s
 unfolding checksumBy crc32
 tabled t s holds b =
-    let m = length s / 16 * 16 in
-    ap (λ (x : ℕ). bitXor x 0xFFFFFFFF)
-    (bytes-tabled t holds (sixteensBy t (length s / 16) 0xFFFFFFFF s) (drop m s)
-    ∙ ap (λ (x : ℕ). crcFrom x (drop m s)) (sixteens-tabled t holds (length s / 16) 0xFFFFFFFF s (omega arith) b (omega arith))
-    ∙ sym (crc-append 0xFFFFFFFF (take m s) (drop m s)) ∙ ap (crcFrom 0xFFFFFFFF) (take-append-drop m s))
+    elim (decLe 512 (length s)) [
+      | yes l ↦
+          rw (le-ltb (length s) 512 l)
+          (ap (λ (x : ℕ). bitXor x 0xFFFFFFFF) (register-tabled t holds 0 (reduced s) (lit< tt) (bytes-reduced s b) ∙ reduced-crc s (omega arith) b))
+      | no l ↦
+          (let h : length s < 512 = omega arith in
+          rw (lt-ltb (length s) 512 h) (ap (λ (x : ℕ). bitXor x 0xFFFFFFFF) (register-tabled t holds 0xFFFFFFFF s (omega arith) b)))
+    ]

@@ -1,2 +1,4 @@
 pub mod Crc
+pub mod Fold
 pub mod Tables
+pub mod Inner

@@ -1,11 +1,14 @@
 -- CRC-32 by tables: what the tables hold, and what is computed from any list in their place. Assumes nothing.
 use mathlib.Core.Path.{_≡_}
+use mathlib.Core.Bool.{cond}
 use mathlib.Core.List.{List, [], _∷_}
 use Prim.Native.Nat.{ℕ, zero, suc, _+_, _*_, _/_, _%_, _<_}
+use lib.Dec.{ltb}
 use lib.ListN.{length, getD, drop}
 use lib.Bits.{bitXor}
 use Rattle.wire.specs.Wire.{fromLe}
 use Rattle.crc32.specs.Crc.{steps}
+use Rattle.crc32.specs.Fold.{reduced}
 
 -- sixteen tables of 256 entries, end to end: entry b of table k is 8 (k + 1) steps from b
 pub record Tables (l : List ℕ) : Type 0 where
@@ -30,6 +33,10 @@ unfoldable pub sixteensBy : List ℕ → ℕ → ℕ → List ℕ → ℕ
 sixteensBy t zero c s = c
 sixteensBy t (suc n) c s = sixteensBy t n (sliced t 0 16 (bitXor c (fromLe 16 s))) (drop 16 s)
 
--- all whole sixteens, and the bytes behind them one by one; the register starts and ends as in `crc32`
+-- the register after a list of bytes: all whole sixteens, and the bytes behind them one by one
+unfoldable pub registerBy : List ℕ → ℕ → List ℕ → ℕ
+registerBy t c s = bytesBy t (sixteensBy t (length s / 16) c s) (drop (length s / 16 * 16) s)
+
+-- from 512 bytes on the input is folded first; the register starts and ends as in `crc32`
 unfoldable pub checksumBy : List ℕ → List ℕ → ℕ
-checksumBy t s = bitXor (bytesBy t (sixteensBy t (length s / 16) 0xFFFFFFFF s) (drop (length s / 16 * 16) s)) 0xFFFFFFFF
+checksumBy t s = bitXor (cond (ltb (length s) 512) (registerBy t 0xFFFFFFFF s) (registerBy t 0 (reduced s))) 0xFFFFFFFF

@@ -1,11 +1,19 @@
-// CRC-32 of ITU-T V.42 by sixteen tables, sixteen bytes at a time.
+// CRC-32 of ITU-T V.42: a long input is folded onto its last 304 bytes, and these go by sixteen tables, sixteen bytes at a time.
 ghost use mathlib.Core.Path.{_≡_};
-ghost use Prim.Native.Nat.{ℕ, _+_, _/_, _<_, _≤_};
-ghost use lib.ListN.{length, getD, drop};
+ghost use Prim.Native.Nat.{_+_, _/_, _%_, _<_, _≤_, min};
+ghost use lib.ListN.{length, take, drop};
 ghost use lib.Bits.{bitXor};
 ghost use Rattle.wire.specs.Wire.{leAt};
 ghost use Rattle.crc32.specs.Crc.{bitStep, steps, crc32};
-ghost use Rattle.crc32.specs.Tables.{Tables, byteBy, bytesBy, sliced, sixteensBy, checksumBy};
+ghost use Rattle.crc32.specs.Fold.{initial, folded, merged, reduced};
+ghost use Rattle.crc32.specs.Inner.{entryAt, Filled, windowSize, Clear};
+ghost use Rattle.crc32.specs.Tables.{Tables, byteBy, bytesBy, sliced, sixteensBy, registerBy, checksumBy};
+
+fn least(a: usize, b: usize) -> usize
+    ensures { λ r. ⌜ r ≡ min a b ⌝ }
+{
+    if a < b { a } else { b }
+}
 
 fn bit_step(c: u32) -> u32
     ensures { λ r. ⌜ r ≡ bitStep c ⌝ }
@@ -19,37 +27,91 @@ fn eight_steps(c: u32) -> u32
     bit_step(bit_step(bit_step(bit_step(bit_step(bit_step(bit_step(bit_step(c))))))))
 }
 
-fn byte_by(t: &[u32; 4096], c: u32, b: u8) -> u32
+fn byte_by(t: &[u32], c: u32, b: u8) -> u32
+    requires { ⌜ 256 ≤ length (now t) ⌝ }
     ensures { λ r. ⌜ r ≡ byteBy (now (t .entry)) c b ⌝ }
 {
     let x = c ^ (b as u32);
     t[(x % 256) as usize] ^ (x / 256)
 }
 
-// The first of the tables; the entries of the others are 0 yet.
-fn first_table() -> [u32; 4096]
-    ensures { λ r. ⌜ ((b : ℕ) → b < 256 → getD r b 0 ≡ steps 8 b) ⌝ }
+// The next entry: in the first table by steps, in a later one a zero byte more than the entry 256 before it.
+fn next_entry(t: &[u32], i: usize) -> u32
+    requires { ⌜ (i < length (now t)) × (length (now t) ≤ 4096) × Filled (now t) i ⌝ }
+    ensures { λ r. ⌜ r ≡ entryAt i ⌝ }
 {
-    let mut t = [0u32; 4096];
-    let mut b: u32 = 0;
-    while b < 256 {
-        t[b as usize] = eight_steps(b);
-        b += 1;
+    if i < 256 {
+        return eight_steps(i as u32);
     }
-    t
+    let x = t[i - 256];
+    byte_by(t, x, 0)
 }
 
-// The tables, for whoever takes several checksums: each entry behind the first table is one zero byte more than the entry 256 before it.
+// The first sixteen entries of a table, one by one.
+fn first_row(t: &mut [u32], at: usize)
+    requires { ⌜ (at + 16 ≤ length (now t)) × (length (now t) ≤ 4096) × Filled (now t) at ⌝ }
+    ensures { λ _. ⌜ Filled (now (t .exit)) (at + 16) ⌝ }
+{
+    let mut i = at;
+    while i < at + 16 {
+        t[i] = next_entry(t, i);
+        i += 1;
+    }
+}
+
+// Sixteen entries more, each the sum of the first of them and of one of the table's first sixteen: steps are linear.
+fn next_row(t: &mut [u32], at: usize)
+    requires { ⌜ (at + 16 ≤ length (now t)) × (length (now t) ≤ 4096) × Filled (now t) at × (at % 16 ≡ 0) × (16 ≤ at % 256) ⌝ }
+    ensures { λ _. ⌜ Filled (now (t .exit)) (at + 16) ⌝ }
+{
+    let x = next_entry(t, at);
+    let first = at - at % 256;
+    let mut i = 0;
+    while i < 16 {
+        t[at + i] = x ^ t[first + i];
+        i += 1;
+    }
+}
+
+// Sixteen entries more.
+fn row(t: &mut [u32], at: usize)
+    requires { ⌜ (at + 16 ≤ length (now t)) × (length (now t) ≤ 4096) × Filled (now t) at × (at % 16 ≡ 0) ⌝ }
+    ensures { λ _. ⌜ Filled (now (t .exit)) (at + 16) ⌝ }
+{
+    if at % 256 == 0 {
+        first_row(t, at);
+        return;
+    }
+    next_row(t, at);
+}
+
+// As many entries as there is room for.
+fn fill(t: &mut [u32])
+    requires { ⌜ (length (now t) ≤ 4096) × (length (now t) % 16 ≡ 0) ⌝ }
+    ensures { λ _. ⌜ Filled (now (t .exit)) (length (now (t .entry))) ⌝ }
+{
+    let mut at = 0;
+    while at < t.len() {
+        row(t, at);
+        at += 16;
+    }
+}
+
+// The tables, for whoever takes several checksums.
 pub fn tables() -> [u32; 4096]
     ensures { λ r. ⌜ Tables r ⌝ }
 {
-    let mut t = first_table();
-    let mut i = 256;
-    while i < 4096 {
-        let x = t[i - 256];
-        t[i] = byte_by(&t, x, 0);
-        i += 1;
-    }
+    let mut t = [0u32; 4096];
+    fill(&mut t);
+    t
+}
+
+// The first of the tables alone.
+fn first_table() -> [u32; 256]
+    ensures { λ r. ⌜ (length r ≡ 256) × Filled r 256 ⌝ }
+{
+    let mut t = [0u32; 256];
+    fill(&mut t);
     t
 }
 
@@ -83,10 +145,10 @@ fn sixteen_bytes(t: &[u32; 4096], c: u32, s: &[u8], at: usize) -> u32
 }
 
 // The register after all whole sixteens.
-fn sixteens_by(t: &[u32; 4096], s: &[u8]) -> u32
-    ensures { λ r. ⌜ r ≡ sixteensBy (now (t .entry)) (length (now (s .entry)) / 16) 0xFFFFFFFF (now (s .entry)) ⌝ }
+fn sixteens_by(t: &[u32; 4096], start: u32, s: &[u8]) -> u32
+    ensures { λ r. ⌜ r ≡ sixteensBy (now (t .entry)) (length (now (s .entry)) / 16) start (now (s .entry)) ⌝ }
 {
-    let mut c: u32 = 0xFFFF_FFFF;
+    let mut c = start;
     let mut i = 0;
     while 16 <= s.len() - i {
         c = sixteen_bytes(t, c, s, i);
@@ -96,7 +158,8 @@ fn sixteens_by(t: &[u32; 4096], s: &[u8]) -> u32
 }
 
 // The register after the bytes from an offset on, one by one.
-fn bytes_by(t: &[u32; 4096], start: u32, s: &[u8], at: usize) -> u32
+fn bytes_by(t: &[u32], start: u32, s: &[u8], at: usize) -> u32
+    requires { ⌜ 256 ≤ length (now t) ⌝ }
     ensures { λ r. ⌜ r ≡ bytesBy (now (t .entry)) start (drop at (now (s .entry))) ⌝ }
 {
     let mut c = start;
@@ -108,16 +171,128 @@ fn bytes_by(t: &[u32; 4096], start: u32, s: &[u8], at: usize) -> u32
     c
 }
 
+// The register after all bytes.
+fn register_by(t: &[u32; 4096], start: u32, s: &[u8]) -> u32
+    ensures { λ r. ⌜ r ≡ registerBy (now (t .entry)) start (now (s .entry)) ⌝ }
+{
+    bytes_by(t, sixteens_by(t, start, s), s, s.len() / 16 * 16)
+}
+
+// How far a byte that is taken out reaches, and how many are taken out before the window is moved on.
+const REACH: usize = 300;
+
+const CHUNK: usize = 2048;
+
+const WINDOW: usize = REACH + CHUNK;
+
+// How many bytes are left in the end, and how far into the window these look.
+const LEFT: usize = 304;
+
+const LOOK: usize = LEFT + 155;
+
+// The window before the first byte is taken out.
+fn first_window() -> [u8; WINDOW]
+    ensures { λ r. ⌜ (length r ≡ windowSize) × (take 300 r ≡ initial) ⌝ }
+{
+    let mut window = [0u8; WINDOW];
+    wire::put_u32(&mut window, 0, 0xFFFF_FFFF);
+    window
+}
+
+// Takes n bytes out, from an offset on. The window begins with the last 300 that were taken out; the next are put behind them.
+fn fold_chunk(window: &mut [u8], s: &[u8], at: usize, n: usize)
+    requires { ⌜ (length (now window) ≡ windowSize) × (n ≤ 2048) × (at + n ≤ length (now s)) ⌝ }
+    ensures { λ _. ⌜ (length (now (window .exit)) ≡ windowSize) × (take 300 (drop n (now (window .exit))) ≡ folded n (take 300 (now (window .entry))) (drop at (now (s .entry)))) ⌝ }
+{
+    let mut i = 0;
+    while i < n {
+        window[i + REACH] = s[at + i]
+            ^ (window[i] ^ (window[i + 89] ^ (window[i + 117] ^ window[i + 155])));
+        i += 1;
+    }
+}
+
+// Moves the window on by n bytes.
+fn slide(window: &mut [u8], n: usize)
+    requires { ⌜ (length (now window) ≡ windowSize) × (n ≤ 2048) ⌝ }
+    ensures { λ _. ⌜ (length (now (window .exit)) ≡ windowSize) × (take 300 (now (window .exit)) ≡ take 300 (drop n (now (window .entry)))) ⌝ }
+{
+    let mut i = 0;
+    while i < REACH {
+        window[i] = window[i + n];
+        i += 1;
+    }
+}
+
+// Clears what stands behind the last 300 bytes that were taken out, as far as `merge` looks.
+fn clear(window: &mut [u8])
+    requires { ⌜ length (now window) ≡ windowSize ⌝ }
+    ensures { λ _. ⌜ (length (now (window .exit)) ≡ windowSize) × (take 300 (now (window .exit)) ≡ take 300 (now (window .entry))) × Clear (now (window .exit)) 459 ⌝ }
+{
+    let mut i = REACH;
+    while i < LOOK {
+        window[i] = 0;
+        i += 1;
+    }
+}
+
+// The bytes left, from an offset on, with what those taken out leave at them.
+fn merge(window: &[u8], s: &[u8], at: usize) -> [u8; LEFT]
+    requires { ⌜ (length (now window) ≡ windowSize) × (at + 304 ≤ length (now s)) × Clear (now window) 459 ⌝ }
+    ensures { λ r. ⌜ r ≡ merged 304 (take 300 (now (window .entry))) (drop at (now (s .entry))) ⌝ }
+{
+    let mut out = [0u8; LEFT];
+    let mut i = 0;
+    while i < LEFT {
+        out[i] = s[at + i] ^ (window[i] ^ (window[i + 89] ^ (window[i + 117] ^ window[i + 155])));
+        i += 1;
+    }
+    out
+}
+
+// The last bytes of a long input with all others folded onto them.
+fn reduce(s: &[u8]) -> [u8; LEFT]
+    requires { ⌜ 304 ≤ length (now s) ⌝ }
+    ensures { λ r. ⌜ r ≡ reduced (now (s .entry)) ⌝ }
+{
+    let mut window = first_window();
+    let end = s.len() - LEFT;
+    let mut at = 0;
+    while at < end {
+        let n = least(end - at, CHUNK);
+        fold_chunk(&mut window, s, at, n);
+        slide(&mut window, n);
+        at += n;
+    }
+    clear(&mut window);
+    merge(&window, s, end)
+}
+
 // The checksum by tables made before: with those of `tables` it's the CRC-32.
 pub fn checksum_with(t: &[u32; 4096], s: &[u8]) -> u32
     ensures { λ r. ⌜ r ≡ checksumBy (now (t .entry)) (now (s .entry)) ⌝ }
 {
-    bytes_by(t, sixteens_by(t, s), s, s.len() / 16 * 16) ^ 0xFFFF_FFFF
+    if s.len() < 512 {
+        return register_by(t, 0xFFFF_FFFF, s) ^ 0xFFFF_FFFF;
+    }
+    let rest = reduce(s);
+    register_by(t, 0, &rest) ^ 0xFFFF_FFFF
+}
+
+// The checksum by the first table alone, one byte after the other: the others cost more than they save on a short input.
+fn short_checksum(s: &[u8]) -> u32
+    ensures { λ r. ⌜ r ≡ crc32 (now (s .entry)) ⌝ }
+{
+    let t = first_table();
+    bytes_by(&t, 0xFFFF_FFFF, s, 0) ^ 0xFFFF_FFFF
 }
 
 pub fn checksum(s: &[u8]) -> u32
     ensures { λ r. ⌜ r ≡ crc32 (now (s .entry)) ⌝ }
 {
+    if s.len() < 384 {
+        return short_checksum(s);
+    }
     let t = tables();
     checksum_with(&t, s)
 }

@@ -21,7 +21,7 @@ loop-holds c = refl
 loop-again : tie.Need-loop-again Inv-loop μ-loop
 loop-again c =
     let l = c .before .before .before in
-    let a = l .before .before .args in
+    let a = l .before .before .before .args in
     let t = a .t .now in
     let s = a .s .now in
     let i = l .loop .i in
@@ -30,7 +30,7 @@ loop-again c =
 returns : tie.Need-returns Inv-loop μ-loop
 returns c =
     let l = c .before in
-    let a = l .before .before .args in
+    let a = l .before .before .before .args in
     bytes-end (a .t .now) (a .s .now) (l .loop .i) (l .loop .c) (search needs) ∙ l .loop .inv
 
 pub bytes-by-spec : {M : Type 1} → statement M

@@ -6,14 +6,14 @@ use borrow.Author.Needs.{needs}
 use Rattle.crc32.proofs.checksum.Statement.{statement}
 use Rattle.crc32.proofs.checksum.Tie as tie
 
-returns : tie.Need-returns
-returns c =
-    let known = c .before .before .before in
+returns-2 : tie.Need-returns-2
+returns-2 c =
     let made = c .before .before .tables in
+    let known = c .before .before .before .before in
     c .checksum-with .ensures
     ∙ tabled (made .result) (known .before .args .s .now) (made .ensures) (λ i. omega (arith, known .shared-slice-known .given i))
 
 pub checksum-spec : {M : Type 1} → statement M
 checksum-spec =
     tie.close
-    (tie.spec (λ c κs. search needs) (λ c κs. search needs) returns)
+    (tie.spec (λ c κs. search needs) (λ c. search needs) (λ c κs. search needs) (λ c κs. search needs) returns-2)

@@ -11,10 +11,10 @@ use Rattle.crc32.proofs.sixteens_by.Tie as tie
 
 -- the sixteens that are left, from the register and the place, give what all of them give from the start
 abbrev Inv-loop : tie.InvT-loop
-Inv-loop t s c₀ i₀ c i = (i ≤ length s) × (sixteensBy t ((length s - i) / 16) c (drop i s) ≡ sixteensBy t (length s / 16) 0xFFFFFFFF s)
+Inv-loop t start s c₀ i₀ c i = (i ≤ length s) × (sixteensBy t ((length s - i) / 16) c (drop i s) ≡ sixteensBy t (length s / 16) start s)
 
 abbrev μ-loop : tie.MeasureT-loop
-μ-loop t s c₀ i₀ c i = length s - i
+μ-loop t start s c₀ i₀ c i = length s - i
 
 loop-holds : tie.Need-loop-holds Inv-loop μ-loop
 loop-holds c = (search needs, rw sub-zero)

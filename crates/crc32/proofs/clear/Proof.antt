@@ -1,0 +1,44 @@
+-- `crc32::clear` meets its contract. Assumes nothing.
+use mathlib.Core.Path.{_≡_, refl, _∙_}
+use Prim.Native.Nat.{_-_, _≤_}
+use native.Mathlib.Omega.{arith}
+use lib.ListN.{length, take, length-set}
+use lib.Seq.{take-set-le}
+use Rattle.crc32.specs.Inner.{Clear}
+use Rattle.crc32.proofs.Window.{clear-turn}
+use borrow.Author.Needs.{needs}
+use Rattle.crc32.proofs.clear.Statement.{statement}
+use Rattle.crc32.proofs.clear.Tie as tie
+
+-- the bytes from 300 to i are cleared
+abbrev Inv-loop : tie.InvT-loop
+Inv-loop window₀ i₀ window i = (300 ≤ i) × ((i ≤ 459) × ((length window ≡ 2348) × ((take 300 window ≡ take 300 window₀) × Clear window i)))
+
+abbrev μ-loop : tie.MeasureT-loop
+μ-loop window₀ i₀ window i = 459 - i
+
+loop-holds : tie.Need-loop-holds Inv-loop μ-loop
+loop-holds c = (search needs, (search needs, (search needs, (refl, λ k low l. absurd (omega arith)))))
+
+loop-again : tie.Need-loop-again Inv-loop μ-loop
+loop-again c =
+    let l = c .before .loop in (
+      search needs,
+      (
+        search needs,
+        (
+          simp length-set (l .inv .1 .1 .0),
+          (take-set-le 300 (l .window) (l .i) 0 (search needs) ∙ l .inv .1 .1 .1 .0, clear-turn (l .window) (l .i) (omega arith) (l .inv .1 .1 .1 .1)),
+        ),
+      ),
+    )
+
+returns : tie.Need-returns Inv-loop μ-loop
+returns c =
+    let l = c .before .loop in
+    (l .inv .1 .1 .0, l .inv .1 .1 .1 .0, λ k low h. l .inv .1 .1 .1 .1 k low (omega arith))
+
+pub clear-spec : {M : Type 1} → statement M
+clear-spec =
+    tie.close
+    (tie.spec Inv-loop μ-loop loop-holds (λ c. search needs) (λ c. search needs) (λ c. search needs) loop-again (λ c. search needs) returns)

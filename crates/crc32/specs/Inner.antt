@@ -1,0 +1,22 @@
+-- What the contracts of private functions cite; no public contract rests on it. Assumes nothing.
+use mathlib.Core.Path.{_≡_}
+use mathlib.Core.List.{List}
+use Prim.Native.Nat.{ℕ, _+_, _*_, _/_, _%_, _<_, _≤_}
+use lib.ListN.{getD}
+use Rattle.crc32.specs.Crc.{steps}
+
+-- entry i of the tables, end to end
+unfoldable pub entryAt : ℕ → ℕ
+entryAt i = steps ((i / 256 + 1) * 8) (i % 256)
+
+-- the entries before i are made
+abbrev pub Filled : List ℕ → ℕ → Type 0
+Filled t i = (k : ℕ) → k < i → getD t k 0 ≡ entryAt k
+
+-- the window that bytes are folded through: 300 that were taken out, and room for 2,048 more
+abbrev pub windowSize : ℕ
+windowSize = 2348
+
+-- the bytes of a window from 300 on are 0 up to an end
+abbrev pub Clear : List ℕ → ℕ → Type 0
+Clear w end = (k : ℕ) → 300 ≤ k → k < end → getD w k 0 ≡ 0
