@@ -13,25 +13,25 @@ use Rattle.frame.specs.Frame.{frameOf}
 use Rattle.frame.proofs.Index.{length-index}
 use Rattle.reader.specs.Open.{rowsIn, openRules, roomRules, callRules, openOf, openOut}
 use Rattle.reader.proofs.Rules.{room-short, room-there}
-use Rattle.reader.proofs.Roomy.{laid, open-roomy}
+use Rattle.reader.proofs.Sound.{laid}
 use Rattle.answer.specs.declared.Answer.{Answer}
 use Rattle.answer.specs.Answer.{answered}
 use Rattle.host.specs.Open.{frameBytes, hostOpenRules, hostOpenOf, hostOpenRows, hostOpenFrame}
 use Rattle.host.proofs.Lacking.{lacking, lacking-broken, lacking-sound, lacking-rules, lacking-never, roomy-rules}
 
--- ---- where the frame has no room, by what opening with room for all rows says
+-- ---- where the frame has no room, by what the checks of opening say
 
-module _ (log : List ℕ) (room rows : ℕ) (wide : 114688 ≤ room) where
-  pub short-unread : (n p : ℕ) → refused n p ≡ openOf log room
+module _ (log : List ℕ) (rows : ℕ) where
+  pub short-unread : (n p : ℕ) → refused n p ≡ settle (firstBroken (openRules crc32 log)) (frameOf log)
       → answered (refused n p) ≡ answered (settle (lacking (callRules log rows) 40) (frameOf log .blocks))
   unfolding callRules
   short-unread n p e =
-      let b = settle-refused _ _ n p (e ∙ open-roomy log room wide) in
+      let b = settle-refused _ _ n p e in
       rw (lacking-broken (openRules crc32 log ++ roomRules (rowsIn log) rows) 40 n p (then-broken (openRules crc32 log) _ n p b))
 
-  module _ (f : Frame) (e : given f ≡ openOf log room) where
+  module _ (f : Frame) (e : given f ≡ settle (firstBroken (openRules crc32 log)) (frameOf log)) where
     passes : (firstBroken (openRules crc32 log) ≡ sound) × (f ≡ frameOf log)
-    passes = settle-given _ _ f (e ∙ open-roomy log room wide)
+    passes = settle-given _ _ f e
 
     pub short-few : f .blocks ≤ 4096
     short-few = rw (passes .1) (laid log (passes .0) .few)

@@ -10,27 +10,26 @@ use Rattle.wire.specs.Wire.{splice}
 use Rattle.rows.specs.Rows.{stride, tableBytes}
 use Rattle.rows.proofs.Rows.{length-table}
 use Rattle.recovery.specs.Recovery.{recoverRules, reportOf, roomRules, callRules, recoverOf, Counts, counted, recoverOut}
-use Rattle.recovery.proofs.Roomy.{call-rules, counted-refused, counted-given, recover-refused}
+use Rattle.recovery.proofs.Reports.{counted-refused, counted-given}
 use Rattle.answer.specs.declared.Answer.{Answer}
 use Rattle.answer.specs.Answer.{answered}
 use Rattle.host.specs.Recover.{reportBytes, hostRecoverRules, hostRecoverOf, hostRecoverRows, hostRecoverReport}
 use Rattle.host.proofs.Lacking.{lacking, lacking-broken, lacking-sound, lacking-rules, lacking-never, roomy-rules}
 
--- ---- where the report has no room, by what recovery with room for all rows says
+-- ---- where the report has no room, by what recovery without rows says
 
-module _ (log : List ℕ) (room rows : ℕ) (wide : 114688 ≤ room) where
-  pub short-unread : (n p : ℕ) → refused n p ≡ counted (recoverOf log room)
+module _ (log : List ℕ) (rows : ℕ) where
+  pub short-unread : (n p : ℕ) → refused n p ≡ counted (settle (firstBroken (recoverRules log)) (reportOf log))
       → answered (refused n p) ≡ answered (settle (lacking (callRules log rows) 32) (length (reportOf log .rows)))
   unfolding callRules
   short-unread n p e =
-      rw (lacking-broken (recoverRules log ++ roomRules (reportOf log) rows) 32 n p (then-broken (recoverRules log) _ n p (recover-refused log room n p wide e)))
+      rw (lacking-broken (recoverRules log ++ roomRules (reportOf log) rows) 32 n p (then-broken (recoverRules log) _ n p (counted-refused _ _ n p e)))
 
-  module _ (c : Counts) (e : given c ≡ counted (recoverOf log room)) where
+  module _ (c : Counts) (e : given c ≡ counted (settle (firstBroken (recoverRules log)) (reportOf log))) where
     passes : (firstBroken (recoverRules log) ≡ sound) × (c .blocks ≡ length (reportOf log .rows))
-    unfolding recoverOf
     passes =
-        let g = counted-given (firstBroken (callRules log room)) (reportOf log) c e in
-        (sym (call-rules log room wide) ∙ g .0, ap (λ (c : Counts). c .blocks) (g .1))
+        let g = counted-given _ (reportOf log) c e in
+        (g .0, ap (λ (c : Counts). c .blocks) (g .1))
 
     pub short-rows : rows < c .blocks * stride
         → answered (refused 12 (c .blocks * stride)) ≡ answered (settle (lacking (callRules log rows) 32) (length (reportOf log .rows)))

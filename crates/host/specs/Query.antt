@@ -7,7 +7,7 @@ use Rattle.wire.specs.Wire.{le, splice}
 use Rattle.parts.specs.declared.IndexRow.{IndexRow}
 use Rattle.parts.specs.declared.time.Epoch.{Epoch}
 use Rattle.rows.specs.Rows.{stride, rowsOf}
-use Rattle.query.specs.Query.{chosen, orderRules, earliest, mostRows}
+use Rattle.query.specs.Query.{chosen, rowRules}
 use Rattle.answer.specs.declared.Answer.{Answer}
 use Rattle.answer.specs.Answer.{answered}
 use Rattle.host.specs.Open.{wholeRows}
@@ -32,8 +32,7 @@ unfoldable pub hostQueryRules : (rows : List ℕ) (t1 t2 numbers : ℕ) → List
 hostQueryRules rows t1 t2 numbers =
     atMost 13 t1 t1 t2
     ∷ wholeRows (length rows)
-    ∷ atMost 6 (length (hostRows rows)) (length (hostRows rows)) mostRows
-    ∷ (orderRules 0 earliest (hostRows rows)
+    ∷ (rowRules (hostRows rows)
     ++ (atLeast 12 (4 * length (hostChosen rows t1 t2)) numbers (4 * length (hostChosen rows t1 t2)) ∷ []))
 
 unfoldable pub hostQueryOf : (rows : List ℕ) (t1 t2 numbers : ℕ) → Answer

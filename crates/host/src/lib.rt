@@ -2,26 +2,28 @@
 ghost use mathlib.Core.Path.{_≡_};
 ghost use mathlib.Core.Bool.{false};
 ghost use mathlib.Core.List.{[], _∷_, _++_};
-ghost use Prim.Native.Nat.{_≤_};
-ghost use lib.ListN.{length, take};
+ghost use Prim.Native.Nat.{_+_, _*_, _≤_};
+ghost use lib.ListN.{length};
 ghost use Rattle.verdict.specs.Rules.{flag, firstBroken, settle};
 ghost use Rattle.verdict.specs.Answer.{verdictOf};
 ghost use Rattle.wire.specs.Wire.{splice};
 ghost use Rattle.frame.specs.Frame.{frameOf};
 ghost use Rattle.label.specs.Label.{labelOut};
 ghost use Rattle.reader.specs.Open.{callRules};
+ghost use Rattle.query.specs.Query.{chosen, mostRows};
 ghost use Rattle.recovery.specs.Recovery.{reportOf};
 ghost use Rattle.recovery.specs.Recovery as recovery;
 ghost use Rattle.repair.specs.Repair.{repairOut};
 ghost use Rattle.answer.specs.Answer.{answered};
 ghost use Rattle.host.specs.Open.{frameBytes, hostOpenOf, hostOpenRows, hostOpenFrame};
-ghost use Rattle.host.specs.Query.{numbersBytes, hostQueryOf, hostQueryOut};
+ghost use Rattle.host.specs.Query.{hostRows, numbersBytes, hostQueryOf, hostQueryOut};
 ghost use Rattle.host.specs.Recover.{stopNumber, stopPlace, flagOf, reportBytes, hostRecoverOf, hostRecoverRows, hostRecoverReport};
 ghost use Rattle.host.specs.Whole.{hostRepairOf, hostLabelOf};
 use answer::Answer;
 use frame::Frame;
 use label::Labelled;
 use parts::Epoch;
+use parts::IndexRow;
 use query::Queried;
 use reader::Opened;
 use recovery::Recovered;
@@ -48,8 +50,7 @@ fn put_frame(out: &mut [u8], log: Frame)
 fn open_short(log: &[u8], rows: usize) -> Answer
     ensures { λ r. ⌜ r ≡ answered (settle (firstBroken (callRules (now (log .entry)) rows ++ (flag 12 40 false ∷ []))) (frameOf (now (log .entry)) .blocks)) ⌝ }
 {
-    let mut table = [0u8; 114688];
-    let r = reader::open(log, &mut table);
+    let r = reader::check(log);
     match r {
         Opened::Refused(w) => answer::refused(w),
         Opened::Log(f) => {
@@ -83,14 +84,32 @@ pub extern "C" fn hplog_open(log: &[u8], rows: &mut [u8], frame: &mut [u8]) -> A
     }
 }
 
-// The first n numbers of a list, four bytes each.
-fn put_numbers(out: &mut [u8], list: &[u32], n: usize)
-    requires { ⌜ n ≤ length (now list) ⌝ }
-    ensures { λ _. ⌜ now (out .exit) ≡ splice (now (out .entry)) 0 (numbersBytes (take n (now (list .entry)))) ⌝ }
+// The number i where its row is listed, as four bytes at an offset; the offset behind it.
+fn put_number(out: &mut [u8], at: usize, i: u32, row: IndexRow, from: Epoch, to: Epoch) -> usize
+    requires { ⌜ at + 4 * length (chosen from to i (row ∷ [])) ≤ length (now out) ⌝ }
+    ensures { λ r. ⌜ (r ≡ at + 4 * length (chosen from to i (row ∷ []))) × (now (out .exit) ≡ splice (now (out .entry)) at (numbersBytes (chosen from to i (row ∷ [])))) ⌝ }
 {
-    let mut i: usize = 0;
-    while i < n {
-        wire::put_u32(out, 4 * i, list[i]);
+    if query::lists(row, from, to) {
+        let end = at + 4;
+        wire::put_u32(&mut out[at..end], 0, i);
+        return end;
+    }
+    at
+}
+
+// The numbers of the listed rows. Each row and each number is a part of its own, of a length that is known, so that reading and writing it take no test.
+fn put_numbers(out: &mut [u8], rows: &[u8], from: Epoch, to: Epoch)
+    requires { ⌜ (length (hostRows (now rows)) ≤ mostRows) × (4 * length (chosen from to 0 (hostRows (now rows))) ≤ length (now out)) ⌝ }
+    ensures { λ _. ⌜ now (out .exit) ≡ splice (now (out .entry)) 0 (numbersBytes (chosen from to 0 (hostRows (now (rows .entry))))) ⌝ }
+{
+    let count = rows::room(rows);
+    let mut at = 0;
+    let mut i = 0;
+    while i < count {
+        let start = i * rows::STRIDE;
+        let end = start + rows::STRIDE;
+        let row = rows::row_at(&rows[start..end], 0);
+        at = put_number(out, at, i as u32, row, from, to);
         i += 1;
     }
 }
@@ -106,8 +125,7 @@ pub extern "C" fn hplog_query(rows: &[u8], t1: u64, t2: u64, numbers: &mut [u8])
     if n % rows::STRIDE != 0 {
         return answer::refuse(6, n as u64);
     }
-    let mut list = [0u32; 4096];
-    let r = query::query(rows, n / rows::STRIDE, Epoch(t1), Epoch(t2), &mut list);
+    let r = query::count(rows, n / rows::STRIDE, Epoch(t1), Epoch(t2));
     match r {
         Queried::Refused(w) => answer::refused(w),
         Queried::Listed(k) => {
@@ -115,7 +133,7 @@ pub extern "C" fn hplog_query(rows: &[u8], t1: u64, t2: u64, numbers: &mut [u8])
             if numbers.len() < needed {
                 return answer::refuse(12, needed as u64);
             }
-            put_numbers(numbers, &list, k as usize);
+            put_numbers(numbers, rows, Epoch(t1), Epoch(t2));
             answer::accepted(k as u64)
         }
     }
@@ -158,8 +176,7 @@ fn put_report(out: &mut [u8], report: Report)
 fn recover_short(log: &[u8], rows: usize) -> Answer
     ensures { λ r. ⌜ r ≡ answered (settle (firstBroken (recovery.callRules (now (log .entry)) rows ++ (flag 12 32 false ∷ []))) (length (reportOf (now (log .entry)) .rows))) ⌝ }
 {
-    let mut table = [0u8; 114688];
-    let r = recovery::recover(log, &mut table);
+    let r = recovery::survey(log);
     match r {
         Recovered::Refused(w) => answer::refused(w),
         Recovered::Found(report) => {
