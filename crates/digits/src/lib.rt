@@ -6,29 +6,56 @@ ghost use lib.ListN.{length, drop};
 ghost use Rattle.wire.specs.Wire.{splice};
 ghost use Rattle.digits.specs.Digits.{decimalOf, magnitudeOf, signedOf, hexDigit, hexOf, shownInText, shownInName, byteOf, byteLen};
 
-// The digits of a number at the end of a buffer, and where they begin.
+// The digits of a number at the end of a buffer, two at a time, and where they begin.
 fn fill(digits: &mut [u8], n: u64) -> usize
     requires { ⌜ length (now digits) ≡ 20 ⌝ }
     ensures { λ r. ⌜ (r ≤ 20) × (drop r (now (digits .exit)) ≡ decimalOf n) ⌝ }
 {
     let mut i: usize = 20;
     let mut x = n;
-    while 10 <= x {
-        i -= 1;
-        digits[i] = 0x30 + (x % 10) as u8;
-        x /= 10;
+    while 100 <= x {
+        digits[i - 1] = 0x30 + (x % 10) as u8;
+        digits[i - 2] = 0x30 + (x / 10 % 10) as u8;
+        i -= 2;
+        x /= 100;
     }
-    i -= 1;
-    digits[i] = 0x30 + x as u8;
-    i
+    if x < 10 {
+        digits[i - 1] = 0x30 + x as u8;
+        return i - 1;
+    }
+    digits[i - 1] = 0x30 + (x % 10) as u8;
+    digits[i - 2] = 0x30 + (x / 10) as u8;
+    i - 2
 }
 
-// How many digits a number takes.
+// How many digits a number below ten thousand takes.
+fn short_len(x: u64) -> usize
+    requires { ⌜ x < 10000 ⌝ }
+    ensures { λ r. ⌜ r ≡ length (decimalOf x) ⌝ }
+{
+    if x < 10 {
+        return 1;
+    }
+    if x < 100 {
+        return 2;
+    }
+    if x < 1000 {
+        return 3;
+    }
+    4
+}
+
+// How many digits a number takes, four at a time.
 pub fn decimal_len(n: u64) -> usize
     ensures { λ r. ⌜ r ≡ length (decimalOf n) ⌝ }
 {
-    let mut digits = [0u8; 20];
-    20 - fill(&mut digits, n)
+    let mut k: usize = 0;
+    let mut x = n;
+    while 10000 <= x {
+        k += 4;
+        x /= 10000;
+    }
+    k + short_len(x)
 }
 
 pub fn put_decimal(out: &mut [u8], at: usize, n: u64)

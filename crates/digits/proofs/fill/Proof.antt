@@ -1,51 +1,49 @@
--- `digits::fill` meets its contract. Assumes nothing.
-use Rattle.digits.proofs.Decimals.{digits-start, digits-left, fewer-digits, digit-turn, digit-last}
-use mathlib.Core.Path.{_≡_, refl, _∙_}
-use mathlib.Core.List.{_++_}
-use Prim.Native.Nat.{_^_, _≤_, _<_}
+-- `digits::fill` meets its contract. The loop's invariant: what is left and the digits put are the number's. Assumes nothing.
+use mathlib.Core.Path.{_≡_, refl}
 use native.Mathlib.Omega.{arith}
-use lib.ListN.{length, drop}
+use lib.ListN.{length, length-set}
 use borrow.Author.Needs.{needs}
-use Rattle.digits.specs.Digits.{decimalOf}
+use Rattle.digits.proofs.Decimals.{Filling, filling-all, two-left, three-left, filling-two, filling-last, filling-last-two}
 use Rattle.digits.proofs.fill.Statement.{statement}
 use Rattle.digits.proofs.fill.Tie as tie
 
 abbrev Inv-loop : tie.InvT-loop
-Inv-loop digits₀ n i₀ x₀ digits i x =
-    ((1 ≤ i) × ((i ≤ 20) × (x ≤ n))) × ((length digits ≡ length digits₀) × ((x < 10 ^ i) × (decimalOf x ++ drop i digits ≡ decimalOf n)))
+Inv-loop digits₀ n i₀ x₀ digits i x = (length digits ≡ length digits₀) × Filling n digits i x
 
 abbrev μ-loop : tie.MeasureT-loop
 μ-loop digits₀ n i₀ x₀ digits i x = x
 
 loop-holds : tie.Need-loop-holds Inv-loop μ-loop
-loop-holds c = let a = c .args in ((search needs, (search needs, search needs)), (search needs, (omega arith, digits-start (a .n) (a .digits .now) (c .pre))))
+loop-holds c = (refl, filling-all _ _ (c .pre) (omega arith))
+
+sub-digits-2 : tie.Need-sub-digits-2 Inv-loop μ-loop
+sub-digits-2 c = let h = three-left _ _ _ _ (c .before .loop .inv .1) (c .loop-test .taken) in omega arith
+
+slice-write-digits-2 : tie.Need-slice-write-digits-2 Inv-loop μ-loop
+slice-write-digits-2 c = let h = three-left _ _ _ _ (c .before .loop .inv .1) (c .loop-test .taken) in simp length-set (omega arith)
+
+sub-i : tie.Need-sub-i Inv-loop μ-loop
+sub-i c = let h = three-left _ _ _ _ (c .before .loop .inv .1) (c .loop-test .taken) in omega arith
 
 loop-again : tie.Need-loop-again Inv-loop μ-loop
-loop-again c =
-    let l = c .before in
-    let v = l .loop .inv in
-    let h = c .loop-test .taken in
-    let two = digits-left (l .loop .x) (l .loop .i) (v .0 .0) (v .1 .1 .0) h in (
-      (omega (arith, two), (omega (arith, v .0 .1 .0), omega (arith, v .0 .1 .1))),
-      (
-        search needs,
-        (
-          fewer-digits (l .loop .x) (l .loop .i) (v .0 .0) (v .1 .1 .0) h,
-          digit-turn (l .before .args .n) (l .loop .x) (l .loop .i) (l .loop .digits) (v .1 .0 ∙ l .before .pre) (v .0 .0) (v .0 .1 .0) (v .1 .1 .0) (v .1 .1 .1) _ h (omega (arith, v .0 .1 .1)) refl,
-        ),
-      ),
-    )
+loop-again c = (search needs, filling-two _ _ _ _ (c .before .loop .inv .1) _ _ (c .loop-test .taken) refl refl)
 
 returns : tie.Need-returns Inv-loop μ-loop
-returns c =
-    let l = c .before in
-    let v = l .loop .inv in (
-      omega (arith, v .0 .1 .0),
-      digit-last (l .before .args .n) (l .loop .x) (l .loop .i) (l .loop .digits) (v .1 .0 ∙ l .before .pre) (v .0 .0) (v .0 .1 .0) (v .1 .1 .0) (v .1 .1 .1) _ (omega (arith, c .loop-test .left)) refl,
-    )
+returns c = let l = c .before .before .loop in (search needs, filling-last _ _ _ _ (l .inv .1) _ (c .if1 .taken) refl)
+
+sub-digits-5 : tie.Need-sub-digits-5 Inv-loop μ-loop
+sub-digits-5 c = let h = two-left _ _ _ _ (c .before .before .loop .inv .1) (c .if1 .left) in omega arith
+
+slice-write-digits-5 : tie.Need-slice-write-digits-5 Inv-loop μ-loop
+slice-write-digits-5 c = let h = two-left _ _ _ _ (c .before .before .loop .inv .1) (c .if1 .left) in simp length-set (omega arith)
+
+sub-result-2 : tie.Need-sub-result-2 Inv-loop μ-loop
+sub-result-2 c = let h = two-left _ _ _ _ (c .before .before .loop .inv .1) (c .if1 .left) in omega arith
+
+returns-2 : tie.Need-returns-2 Inv-loop μ-loop
+returns-2 c = let l = c .before .before .loop in (search needs, filling-last-two _ _ _ _ (l .inv .1) _ _ (c .if1 .left) (omega arith) refl refl)
 
 pub fill-spec : {M : Type 1} → statement M
 fill-spec =
     tie.close
-    (tie.spec Inv-loop μ-loop loop-holds (λ c. search needs) (λ c. search needs) (λ c. search needs) (λ c. search needs) (λ c. search needs) loop-again
-    (λ c. search needs) (λ c. search needs) (λ c. search needs) (λ c. search needs) (λ c. search needs) returns)
+    (tie.spec Inv-loop μ-loop loop-holds (λ c. search needs) (λ c. search needs) (λ c. search needs) (λ c. search needs) (λ c. search needs) (λ c. search needs) sub-digits-2 slice-write-digits-2 sub-i (λ c. search needs) loop-again (λ c. search needs) (λ c. search needs) (λ c. search needs) (λ c. search needs) (λ c. search needs) (λ c. search needs) returns (λ c. search needs) (λ c. search needs) (λ c. search needs) (λ c. search needs) (λ c. search needs) (λ c. search needs) sub-digits-5 slice-write-digits-5 sub-result-2 (λ c. search needs) returns-2)
