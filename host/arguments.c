@@ -27,49 +27,49 @@ bool arguments_time(const char *command, const char *text, uint64_t *time)
     return false;
 }
 
-/* The value of an option that is written NAME VALUE or NAME=VALUE, which steps *i past the value; a null pointer where the word is another. */
-static const char *value_of(const char *name, char **words, int count, int *i)
+/* Whether the word at *i is the option NAME VALUE or NAME=VALUE. *value is then its value, past which *i steps, or a null pointer with none. */
+static bool is_option(const char *name, char **words, int count, int *i, const char **value)
 {
     size_t length = strlen(name);
-    if (strncmp(words[*i], name, length) != 0)
-        return NULL;
-    if (words[*i][length] == '=')
-        return words[*i] + length + 1;
-    if (words[*i][length] != '\0')
-        return NULL;
-    return *i + 1 < count ? words[++*i] : "";
+    const char *word = words[*i];
+    if (strncmp(word, name, length) != 0 || (word[length] != '=' && word[length] != '\0'))
+        return false;
+    if (word[length] == '=')
+        *value = word + length + 1;
+    else
+        *value = *i + 1 < count ? words[++*i] : NULL;
+    return true;
 }
 
 /* Takes the option at *i; false where the command has no such option or its value is wrong. */
 static bool take_option(arguments *parsed, char **words, int count, int *i, const char *command, unsigned options)
 {
-    const char *word = words[*i];
+    const char *word = words[*i], *value = NULL;
+    uint64_t *time = NULL;
     if (strcmp(word, "--plain") == 0)
         return parsed->is_plain = true;
     if (strcmp(word, "--help") == 0 || strcmp(word, "-h") == 0)
         return parsed->is_help = true;
     if ((options & OPTION_FORCE) && (strcmp(word, "--force") == 0 || strcmp(word, "-f") == 0))
         return parsed->is_forced = true;
-    if (options & OPTION_RANGE) {
-        const char *from = value_of("--from", words, count, i);
-        if (from != NULL)
-            return arguments_time(command, from, &parsed->from);
-        const char *to = value_of("--to", words, count, i);
-        if (to != NULL)
-            return arguments_time(command, to, &parsed->to);
-    }
-    arguments_wrong(command, "no such option:", word);
+    if ((options & OPTION_RANGE) && is_option("--from", words, count, i, &value))
+        time = &parsed->from;
+    else if ((options & OPTION_RANGE) && is_option("--to", words, count, i, &value))
+        time = &parsed->to;
+    if (value != NULL)
+        return arguments_time(command, value, time);
+    arguments_wrong(command, time == NULL ? "no such option:" : "no time behind the option", word);
     return false;
 }
 
 bool arguments_parse(arguments *parsed, char **words, int count, const char *command, unsigned options)
 {
-    bool is_option = true;
+    bool are_options = true;
     *parsed = (arguments){.operands = words, .to = UINT64_MAX};
     for (int i = 0; i < count; i++) {
-        if (is_option && strcmp(words[i], "--") == 0)
-            is_option = false;
-        else if (!is_option || words[i][0] != '-' || words[i][1] == '\0')
+        if (are_options && strcmp(words[i], "--") == 0)
+            are_options = false;
+        else if (!are_options || words[i][0] != '-' || words[i][1] == '\0')
             words[parsed->count++] = words[i];
         else if (!take_option(parsed, words, count, &i, command, options))
             return false;

@@ -2,8 +2,10 @@
 
 #include "bytes.h"
 #include "calendar.h"
+#include "format.h"
 #include "hplog.h"
 #include "message.h"
+#include "terminal.h"
 #include "text.h"
 
 #include <stdio.h>
@@ -29,20 +31,41 @@ uint8_t *blocks_rows(const input *log, size_t *length)
     return rows;
 }
 
+const uint8_t *blocks_index(const input *log, size_t *count)
+{
+    *count = (size_t)bytes_u64(log->bytes + HEADER_COUNT);
+    return log->bytes + bytes_u64(log->bytes + log->length - FOOTER_SIZE + FOOTER_INDEX) + INDEX_ROWS;
+}
+
+uint8_t *blocks_choose(const input *log, const uint8_t *rows, size_t count, uint64_t t1, uint64_t t2, size_t *found)
+{
+    uint8_t none[1];
+    size_t length = count * HPLOG_ROW;
+    hplog_answer answer = hplog_query(rows, length, t1, t2, none, 0);
+    size_t room = answer.number == 12 ? (size_t)answer.place : 0;
+    uint8_t *numbers = malloc(room + 1);
+    if (numbers == NULL) {
+        message_error(log->name);
+        return NULL;
+    }
+    *found = (size_t)hplog_query(rows, length, t1, t2, numbers, room).count;
+    return numbers;
+}
+
 /* The block in place i of those to print. A row's block has a whole header in the file. */
 static block block_at(const input *log, const uint8_t *rows, const uint8_t *numbers, size_t i)
 {
     uint64_t number = numbers == NULL ? i : bytes_u32(numbers + 4 * i);
     const uint8_t *row = rows + number * HPLOG_ROW;
-    const uint8_t *header = log->bytes + bytes_u64(row + 16);
+    const uint8_t *header = log->bytes + bytes_u64(row + ROW_OFFSET);
     return (block){{
         [NUMBER] = number,
-        [OFFSET] = bytes_u64(row + 16),
-        [STORED] = bytes_u32(row + 24),
-        [PLAIN] = bytes_u32(header + 28),
-        [ENTRIES] = bytes_u32(header + 20),
-        [START] = bytes_u64(row),
-        [END] = bytes_u64(row + 8),
+        [OFFSET] = bytes_u64(row + ROW_OFFSET),
+        [STORED] = bytes_u32(row + ROW_STORED),
+        [PLAIN] = bytes_u32(header + BLOCK_PLAIN),
+        [ENTRIES] = bytes_u32(header + BLOCK_ENTRIES),
+        [START] = bytes_u64(row + ROW_START),
+        [END] = bytes_u64(row + ROW_END),
     }};
 }
 
@@ -73,7 +96,7 @@ static void print_cells(const int *widths, const block *b)
 
 static void print_headings(const int *widths)
 {
-    bool is_bold = text_colours(stdout);
+    bool is_bold = terminal_colours(stdout);
     fputs(is_bold ? "\033[1m" : "", stdout);
     print_cells(widths, NULL);
     fputs(is_bold ? "\033[0m" : "", stdout);

@@ -1,8 +1,10 @@
 #include "book.h"
 
 #include "bytes.h"
+#include "format.h"
 #include "hplog.h"
 #include "message.h"
+#include "progress.h"
 #include "status.h"
 #include "text.h"
 
@@ -38,6 +40,15 @@ book_refusal book_dictionary(const input *book, book_part *dictionary)
     return (book_refusal){0, 0};
 }
 
+size_t book_offset(const input *book, uint32_t number)
+{
+    book_part part;
+    size_t at = FIRST_PART;
+    for (uint32_t i = 0; i < number && next_part(book, &at, &part); i++)
+        ;
+    return at;
+}
+
 /* Walks the entry at *at; false where a step is refused. */
 static bool next_entry(const book_part *plain, uint32_t names, hplog_cursor *at, uint64_t *delta)
 {
@@ -59,7 +70,7 @@ static bool next_entry(const book_part *plain, uint32_t names, hplog_cursor *at,
 /* Whether plain bytes are the entries that a block's header announces. */
 static bool are_entries_right(const uint8_t *header, const book_part *plain, uint32_t names)
 {
-    uint64_t delta = 0, before = 0, entries = 0, start = bytes_u64(header + 4);
+    uint64_t delta = 0, before = 0, entries = 0, start = bytes_u64(header + BLOCK_START);
     hplog_cursor at = {0};
     while (at.at < plain->length) {
         if (!next_entry(plain, names, &at, &delta) || delta < before || (entries == 0 && delta != 0))
@@ -67,7 +78,9 @@ static bool are_entries_right(const uint8_t *header, const book_part *plain, uin
         before = delta;
         entries++;
     }
-    return entries == bytes_u32(header + 20) && plain->length == bytes_u32(header + 28) && bytes_u64(header + 12) - start == delta;
+    if (entries != bytes_u32(header + BLOCK_ENTRIES) || plain->length != bytes_u32(header + BLOCK_PLAIN))
+        return false;
+    return bytes_u64(header + BLOCK_END) - start == delta;
 }
 
 /* The first block with wrong entries. Log and book have passed all rules that come before 11. */
@@ -80,7 +93,7 @@ static uint64_t wrong_block(const input *log, const input *book)
     size_t at = FIRST_PART;
     uint64_t block = 0;
     while (next_part(book, &at, &plain) && are_entries_right(header, &plain, names)) {
-        header += HPLOG_BLOCK_HEADER + (size_t)bytes_u32(header + 24);
+        header += HPLOG_BLOCK_HEADER + (size_t)bytes_u32(header + BLOCK_STORED);
         block++;
     }
     return block;
@@ -89,8 +102,10 @@ static uint64_t wrong_block(const input *log, const input *book)
 int book_refused_entries(const input *log, const input *book, uint64_t place)
 {
     char text[TEXT_NUMBER];
+    progress_begin("checking");
+    unsigned long long block = wrong_block(log, book);
+    progress_end();
     message_refused(11, place, book->name);
-    fprintf(stderr, "plain entries are wrong in block %llu, byte %s of its plain bytes\n", (unsigned long long)wrong_block(log, book),
-            text_number(place, text));
+    fprintf(stderr, "plain entries are wrong in block %llu, byte %s of its plain bytes\n", block, text_number(place, text));
     return STATUS_REFUSED;
 }

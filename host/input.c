@@ -1,6 +1,7 @@
 #include "input.h"
 
 #include "message.h"
+#include "progress.h"
 
 #include <errno.h>
 #include <fcntl.h>
@@ -29,63 +30,85 @@ static bool map(input *file, int descriptor)
     return true;
 }
 
-/* Makes room for more bytes; the old ones are freed on failure. */
-static uint8_t *grown(uint8_t *bytes, size_t *room)
+/* What has been read so far. */
+typedef struct {
+    uint8_t *bytes;
+    size_t length, room;
+} buffer;
+
+/* Makes room for more bytes where there is none. */
+static bool grow(buffer *b)
 {
-    size_t more = *room == 0 ? FIRST_READ : *room * 2;
-    uint8_t *next = more > *room ? realloc(bytes, more) : NULL;
+    if (b->length < b->room)
+        return true;
+    size_t more = b->room == 0 ? FIRST_READ : b->room * 2;
+    uint8_t *next = more > b->room ? realloc(b->bytes, more) : NULL;
     if (next == NULL) {
-        free(bytes);
         errno = ENOMEM;
-        return NULL;
+        return false;
     }
-    *room = more;
-    return next;
+    b->bytes = next;
+    b->room = more;
+    return true;
+}
+
+/* Reads to the end; on false errno is set. */
+static bool fill(buffer *b, int descriptor)
+{
+    while (grow(b)) {
+        ssize_t count = read(descriptor, b->bytes + b->length, b->room - b->length);
+        if (count == 0)
+            return true;
+        if (count < 0 && errno != EINTR)
+            return false;
+        b->length += count > 0 ? (size_t)count : 0;
+        progress_bytes(b->length);
+    }
+    return false;
 }
 
 static bool read_all(input *file, int descriptor)
 {
-    uint8_t *bytes = NULL;
-    size_t length = 0, room = 0;
-    for (;;) {
-        if (length == room) {
-            bytes = grown(bytes, &room);
-            if (bytes == NULL)
-                return false;
-        }
-        ssize_t count = read(descriptor, bytes + length, room - length);
-        if (count == 0)
-            break;
-        if (count < 0 && errno != EINTR) {
-            int error = errno;
-            free(bytes);
-            errno = error;
-            return false;
-        }
-        length += count > 0 ? (size_t)count : 0;
+    buffer b = {NULL, 0, 0};
+    if (!fill(&b, descriptor)) {
+        int error = errno;
+        free(b.bytes);
+        errno = error;
+        return false;
     }
-    file->bytes = bytes;
-    file->length = length;
+    file->bytes = b.bytes;
+    file->length = b.length;
     return true;
 }
 
 bool input_open(input *file, const char *path)
 {
     bool is_standard = strcmp(path, "-") == 0;
-    memset(file, 0, sizeof *file);
-    file->name = is_standard ? "standard input" : path;
-    file->bytes = no_bytes;
+    *file = (input){.name = is_standard ? "standard input" : path, .bytes = no_bytes};
+    /* A pipe is waited for already when it is opened. */
+    progress_begin("reading");
     int descriptor = is_standard ? STDIN_FILENO : open(path, O_RDONLY | O_CLOEXEC);
-    if (descriptor < 0) {
+    bool is_terminal = descriptor >= 0 && isatty(descriptor);
+    bool is_file = descriptor >= 0 && !is_terminal && fstat(descriptor, &file->status) == 0;
+    bool is_open = is_file && (map(file, descriptor) || read_all(file, descriptor));
+    progress_end();
+    if (is_terminal)
+        message_fault(file->name, "is a terminal");
+    else if (!is_open)
         message_error(file->name);
-        return false;
-    }
-    bool is_open = fstat(descriptor, &file->status) == 0 && (map(file, descriptor) || read_all(file, descriptor));
-    if (!is_open)
-        message_error(file->name);
-    if (!is_standard)
+    if (!is_standard && descriptor >= 0)
         close(descriptor);
     return is_open;
+}
+
+bool input_open_both(input *first, input *second, char *const *paths)
+{
+    if (!input_open(first, paths[0]))
+        return false;
+    if (input_open(second, paths[1]))
+        return true;
+    input_close(first);
+    return false;
 }
 
 void input_close(input *file)

@@ -18,6 +18,9 @@ typedef struct {
 /* Maps a file, or reads what cannot be mapped; "-" is standard input. On false a message has been printed and there is nothing to close. */
 bool input_open(input *file, const char *path);
 
+/* The same of two files, the paths of which stand side by side. */
+bool input_open_both(input *first, input *second, char *const *paths);
+
 void input_close(input *file);
 
 #endif

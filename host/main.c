@@ -1,9 +1,9 @@
 #include "arguments.h"
 #include "commands.h"
 #include "help.h"
-#include "message.h"
 #include "signals.h"
 #include "status.h"
+#include "streams.h"
 #include "version.h"
 
 #include <limits.h>
@@ -68,7 +68,7 @@ static int run(const command *found, char **words, int count)
 
 int main(int count, char **words)
 {
-    if (!message_streams())
+    if (!streams_open())
         return STATUS_ERROR;
     if (count < 2) {
         fputs(help_all, stderr);
@@ -76,15 +76,15 @@ int main(int count, char **words)
     }
     if (strcmp(words[1], "--help") == 0 || strcmp(words[1], "-h") == 0) {
         fputs(help_all, stdout);
-        return message_finish(STATUS_ACCEPTED);
+        return streams_finish(STATUS_ACCEPTED);
     }
     if (strcmp(words[1], "--version") == 0 || strcmp(words[1], "-V") == 0) {
         puts("hplog " HOST_VERSION ", HPLOG format version 1");
-        return message_finish(STATUS_ACCEPTED);
+        return streams_finish(STATUS_ACCEPTED);
     }
     const command *found = find(words[1]);
     if (found == NULL)
-        return arguments_wrong("", "no such command:", words[1]);
+        return arguments_wrong("", words[1][0] == '-' ? "no such option:" : "no such command:", words[1]);
     signals_install();
-    return message_finish(run(found, words + 2, count - 2));
+    return streams_finish(run(found, words + 2, count - 2));
 }

@@ -39,6 +39,8 @@ static int names(const input *book, bool is_plain)
     progress_end();
     if (answer.number != 0)
         return words_refused_book(book->name, answer.number, answer.place);
+    progress_begin("listing");
+    progress_print();
     if (is_plain)
         printf("book %llu ", (unsigned long long)answer.count);
     text_path(stdout, book->name);
@@ -46,6 +48,7 @@ static int names(const input *book, bool is_plain)
         printf(": %s %s", text_number(answer.count, text), answer.count == 1 ? "name" : "names");
     putchar('\n');
     print_names(dictionary.bytes, answer.count, is_plain);
+    progress_end();
     return STATUS_ACCEPTED;
 }
 

@@ -1,6 +1,7 @@
 /* hplog repair: the finished file of a damaged one. */
 #include "bytes.h"
 #include "commands.h"
+#include "format.h"
 #include "hplog.h"
 #include "input.h"
 #include "progress.h"
@@ -23,7 +24,7 @@ static hplog_answer repair(const input *log, const input *dictionary, uint8_t *o
 static void print_file(const store *out, bool is_plain)
 {
     char a[TEXT_NUMBER], b[TEXT_NUMBER];
-    uint64_t blocks = bytes_u64(out->bytes + 18);
+    uint64_t blocks = bytes_u64(out->bytes + HEADER_COUNT);
     if (is_plain) {
         printf("file %zu %llu\n", out->length, (unsigned long long)blocks);
         return;
@@ -33,7 +34,7 @@ static void print_file(const store *out, bool is_plain)
 }
 
 /* The new file is made only once the call has said how long it is, so a refusal makes none. */
-static int repair_into(const input *log, const input *dictionary, store *out, bool is_forced, bool is_plain)
+static int repair_into(const input *log, const input *dictionary, store *out, bool is_plain)
 {
     uint8_t none[1];
     hplog_answer answer = repair(log, dictionary, none, 0);
@@ -47,7 +48,7 @@ static int repair_into(const input *log, const input *dictionary, store *out, bo
     answer = repair(log, dictionary, out->bytes, out->length);
     if (answer.number != 0)
         return words_refused_log(log, answer.number, answer.place);
-    if (!store_commit(out, is_forced))
+    if (!store_commit(out))
         return STATUS_ERROR;
     print_file(out, is_plain);
     return STATUS_ACCEPTED;
@@ -59,7 +60,7 @@ static int repair_inputs(const input *log, const input *dictionary, const argume
     store out;
     if (!store_open(&out, args->operands[2], args->is_forced, kept, 2))
         return STATUS_ERROR;
-    int status = repair_into(log, dictionary, &out, args->is_forced, args->is_plain);
+    int status = repair_into(log, dictionary, &out, args->is_plain);
     store_close(&out);
     return status;
 }
@@ -69,12 +70,8 @@ int command_repair(const arguments *args)
     input log, dictionary;
     if (strcmp(args->operands[2], "-") == 0)
         return arguments_wrong("repair", "OUT must be a file, not", "-");
-    if (!input_open(&log, args->operands[0]))
+    if (!input_open_both(&log, &dictionary, args->operands))
         return STATUS_ERROR;
-    if (!input_open(&dictionary, args->operands[1])) {
-        input_close(&log);
-        return STATUS_ERROR;
-    }
     int status = repair_inputs(&log, &dictionary, args);
     input_close(&dictionary);
     input_close(&log);

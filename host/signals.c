@@ -1,5 +1,6 @@
 #include "signals.h"
 
+#include "progress.h"
 #include "status.h"
 
 #include <fcntl.h>
@@ -8,7 +9,7 @@
 #include <string.h>
 #include <unistd.h>
 
-static const int ending[] = {SIGINT, SIGTERM, SIGHUP, SIGQUIT};
+static const int ending[] = {SIGINT, SIGTERM, SIGHUP, SIGQUIT, SIGPIPE};
 #define ENDING (sizeof ending / sizeof *ending)
 
 static volatile sig_atomic_t is_guarded;
@@ -26,6 +27,7 @@ static void remove_guarded(void)
 static void on_ending(int number)
 {
     remove_guarded();
+    progress_clear();
     signal(number, SIG_DFL);
     raise(number);
 }
@@ -35,6 +37,7 @@ static void on_fault(int number)
     static const char words[] = "hplog: a file became shorter, or its disk failed, while it was in use\n";
     (void)number;
     remove_guarded();
+    progress_clear();
     ssize_t written = write(STDERR_FILENO, words, sizeof words - 1);
     (void)written;
     _exit(STATUS_ERROR);
@@ -52,6 +55,7 @@ void signals_install(void)
     struct sigaction act, old;
     memset(&act, 0, sizeof act);
     ending_set(&act.sa_mask);
+    sigaddset(&act.sa_mask, SIGALRM);
     act.sa_handler = on_ending;
     for (size_t i = 0; i < ENDING; i++) {
         /* A signal that the caller ignores, as nohup does, stays ignored. */

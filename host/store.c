@@ -1,6 +1,7 @@
 #include "store.h"
 
 #include "message.h"
+#include "progress.h"
 #include "signals.h"
 
 #include <errno.h>
@@ -12,6 +13,7 @@
 #include <unistd.h>
 
 #define ATTEMPTS 100
+#define SYNCED_AT_ONCE ((size_t)64 << 20)
 
 /* Opens the folder that a path's last part stands in. */
 static int open_folder(const char *path, const char **name)
@@ -31,9 +33,11 @@ static int open_folder(const char *path, const char **name)
 }
 
 /* Why the name must not be taken, or a null pointer where it may. */
-static const char *obstacle(const store *file, bool is_forced, const struct stat *const *kept, size_t count)
+static const char *obstacle(const store *file, const struct stat *const *kept, size_t count)
 {
     struct stat status;
+    if (*file->name == '\0')
+        return strerror(*file->path == '\0' ? ENOENT : EISDIR);
     if (fstatat(file->folder, file->name, &status, 0) == 0) {
         for (size_t i = 0; i < count; i++) {
             if (status.st_dev == kept[i]->st_dev && status.st_ino == kept[i]->st_ino)
@@ -41,21 +45,21 @@ static const char *obstacle(const store *file, bool is_forced, const struct stat
         }
     }
     if (fstatat(file->folder, file->name, &status, AT_SYMLINK_NOFOLLOW) != 0)
-        return errno == ENOENT && *file->name != '\0' ? NULL : strerror(errno);
+        return errno == ENOENT ? NULL : strerror(errno);
     if (!S_ISREG(status.st_mode))
         return "exists and is not a regular file";
-    return is_forced ? NULL : "exists (--force replaces it)";
+    return file->is_forced ? NULL : "exists (--force replaces it)";
 }
 
 bool store_open(store *file, const char *path, bool is_forced, const struct stat *const *kept, size_t count)
 {
-    *file = (store){.path = path, .descriptor = -1};
+    *file = (store){.path = path, .is_forced = is_forced, .descriptor = -1};
     file->folder = open_folder(path, &file->name);
     if (file->folder < 0) {
         message_error(path);
         return false;
     }
-    const char *words = obstacle(file, is_forced, kept, count);
+    const char *words = obstacle(file, kept, count);
     if (words == NULL)
         return true;
     message_fault(path, words);
@@ -63,22 +67,45 @@ bool store_open(store *file, const char *path, bool is_forced, const struct stat
     return false;
 }
 
-/* A signal between making the file and guarding it would leave it behind, so signals are held back meanwhile. */
-static bool create_guarded(store *file, mode_t mode)
+/* A file without a name goes away with the program, whatever ends it; -1 where there can be none. It is named later by its entry in /proc. */
+static int open_unnamed(const store *file)
 {
+    if (access("/proc/self/fd", X_OK) != 0)
+        return -1;
+    return openat(file->folder, ".", O_TMPFILE | O_RDWR | O_CLOEXEC, file->mode);
+}
+
+/* Gives the temporary name to the file without a name, or to a new one. */
+static bool try_temporary(store *file)
+{
+    char entry[32];
+    if (file->descriptor < 0) {
+        file->descriptor = openat(file->folder, file->temporary, O_RDWR | O_CREAT | O_EXCL | O_CLOEXEC, file->mode);
+        return file->descriptor >= 0;
+    }
+    snprintf(entry, sizeof entry, "/proc/self/fd/%d", file->descriptor);
+    return linkat(AT_FDCWD, entry, file->folder, file->temporary, AT_SYMLINK_FOLLOW) == 0;
+}
+
+/* A signal between making the name and guarding it would leave it behind, so signals are held back meanwhile. */
+static bool take_temporary(store *file)
+{
+    bool is_taken = false;
     signals_hold(true);
-    for (int i = 0; i < ATTEMPTS && file->descriptor < 0; i++) {
+    for (int i = 0; i < ATTEMPTS && !is_taken; i++) {
         snprintf(file->temporary, sizeof file->temporary, ".hplog-%ld-%d", (long)getpid(), i);
-        file->descriptor = openat(file->folder, file->temporary, O_RDWR | O_CREAT | O_EXCL | O_CLOEXEC, mode);
-        if (file->descriptor < 0 && errno != EEXIST)
+        is_taken = try_temporary(file);
+        if (!is_taken && errno != EEXIST)
             break;
     }
     int error = errno;
-    if (file->descriptor >= 0)
+    if (is_taken)
         signals_guard(file->folder, file->temporary);
+    else
+        file->temporary[0] = '\0';
     signals_hold(false);
     errno = error;
-    return file->descriptor >= 0;
+    return is_taken;
 }
 
 /* Takes the room on the disk at once, so that writing to the mapped bytes cannot run out of it. */
@@ -95,7 +122,9 @@ static bool allocate(int descriptor, size_t length)
 bool store_create(store *file, size_t length, mode_t mode)
 {
     void *mapped = MAP_FAILED;
-    if (create_guarded(file, mode) && allocate(file->descriptor, length))
+    file->mode = mode;
+    file->descriptor = open_unnamed(file);
+    if ((file->descriptor >= 0 || take_temporary(file)) && allocate(file->descriptor, length))
         mapped = mmap(NULL, length, PROT_READ | PROT_WRITE, MAP_SHARED, file->descriptor, 0);
     if (mapped == MAP_FAILED) {
         message_error(file->path);
@@ -106,25 +135,41 @@ bool store_create(store *file, size_t length, mode_t mode)
     return true;
 }
 
-/* Without force the name must still be free; a file system that cannot promise that is asked before. */
-static int give_name(const store *file, bool is_forced)
+/* In pieces, between which progress is shown and a signal is heard. */
+static bool sync_bytes(const store *file)
 {
-    if (is_forced)
-        return renameat(file->folder, file->temporary, file->folder, file->name);
-    int result = renameat2(file->folder, file->temporary, file->folder, file->name, RENAME_NOREPLACE);
-    if (result == 0 || (errno != EINVAL && errno != ENOSYS))
-        return result;
-    if (faccessat(file->folder, file->name, F_OK, AT_SYMLINK_NOFOLLOW) == 0) {
-        errno = EEXIST;
-        return -1;
+    bool is_synced = true;
+    progress_begin("syncing");
+    for (size_t at = 0; is_synced && at < file->length; at += SYNCED_AT_ONCE) {
+        size_t left = file->length - at;
+        is_synced = msync(file->bytes + at, left < SYNCED_AT_ONCE ? left : SYNCED_AT_ONCE, MS_SYNC) == 0;
+        progress_bytes(at);
     }
-    return renameat(file->folder, file->temporary, file->folder, file->name);
+    is_synced = is_synced && fsync(file->descriptor) == 0;
+    progress_end();
+    return is_synced;
 }
 
-bool store_commit(store *file, bool is_forced)
+/* Without force the name must still be free; a file system that cannot promise that is asked before. */
+static bool give_name(const store *file)
 {
-    bool is_synced = msync(file->bytes, file->length, MS_SYNC) == 0 && fsync(file->descriptor) == 0;
-    if (!is_synced || give_name(file, is_forced) != 0) {
+    if (!file->is_forced) {
+        if (renameat2(file->folder, file->temporary, file->folder, file->name, RENAME_NOREPLACE) == 0)
+            return true;
+        if (errno != EINVAL && errno != ENOSYS)
+            return false;
+        if (faccessat(file->folder, file->name, F_OK, AT_SYMLINK_NOFOLLOW) == 0) {
+            errno = EEXIST;
+            return false;
+        }
+    }
+    return renameat(file->folder, file->temporary, file->folder, file->name) == 0;
+}
+
+bool store_commit(store *file)
+{
+    bool is_named = file->temporary[0] != '\0';
+    if (!sync_bytes(file) || !(is_named || take_temporary(file)) || !give_name(file)) {
         message_error(file->path);
         return false;
     }
@@ -142,11 +187,10 @@ void store_close(store *file)
 {
     if (file->bytes != NULL)
         munmap(file->bytes, file->length);
-    if (file->descriptor >= 0) {
+    if (file->descriptor >= 0)
         close(file->descriptor);
-        if (file->temporary[0] != '\0')
-            unlinkat(file->folder, file->temporary, 0);
-    }
+    if (file->temporary[0] != '\0')
+        unlinkat(file->folder, file->temporary, 0);
     signals_release();
     close(file->folder);
 }

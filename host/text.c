@@ -1,8 +1,7 @@
 #include "text.h"
 
-#include <stdlib.h>
+#include <stdbool.h>
 #include <string.h>
-#include <unistd.h>
 
 const char *text_number(uint64_t value, char text[TEXT_NUMBER])
 {
@@ -73,16 +72,4 @@ void text_shown(FILE *to, const uint8_t *bytes, size_t length)
 void text_path(FILE *to, const char *path)
 {
     text_shown(to, (const uint8_t *)path, strlen(path));
-}
-
-bool text_terminal(FILE *to)
-{
-    const char *terminal = getenv("TERM");
-    return terminal != NULL && strcmp(terminal, "dumb") != 0 && isatty(fileno(to));
-}
-
-bool text_colours(FILE *to)
-{
-    const char *off = getenv("NO_COLOR");
-    return (off == NULL || *off == '\0') && text_terminal(to);
 }

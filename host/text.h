@@ -2,7 +2,6 @@
 #ifndef HOST_TEXT_H
 #define HOST_TEXT_H
 
-#include <stdbool.h>
 #include <stddef.h>
 #include <stdint.h>
 #include <stdio.h>
@@ -21,11 +20,5 @@ void text_shown(FILE *to, const uint8_t *bytes, size_t length);
 
 /* The same of a string. */
 void text_path(FILE *to, const char *path);
-
-/* Whether a stream is a terminal that can move its cursor. */
-bool text_terminal(FILE *to);
-
-/* Whether a stream is such a terminal and wants colours: not where NO_COLOR is set. */
-bool text_colours(FILE *to);
 
 #endif

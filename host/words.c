@@ -1,6 +1,7 @@
 #include "words.h"
 
 #include "bytes.h"
+#include "format.h"
 #include "hplog.h"
 #include "message.h"
 #include "status.h"
@@ -8,13 +9,6 @@
 
 #include <stdbool.h>
 #include <string.h>
-
-#define FOOTER 24
-#define INDEX_HEADER 16
-
-/* Fields of the header and of a block's header. */
-enum { DICTIONARY = 10, COUNT = 18, FIRST = 26, LAST = 34 };
-enum { NUMBER = 0, START = 4, END = 12, STORED = 24 };
 
 /* A field of a block's header. */
 typedef struct {
@@ -37,7 +31,7 @@ static bool locate(const input *log, uint64_t place, location *found)
         }
         if (log->length - at < HPLOG_BLOCK_HEADER)
             return false;
-        at += HPLOG_BLOCK_HEADER + (uint64_t)bytes_u32(log->bytes + at + STORED);
+        at += HPLOG_BLOCK_HEADER + (uint64_t)bytes_u32(log->bytes + at + BLOCK_STORED);
         if (at > log->length)
             return false;
     }
@@ -57,16 +51,16 @@ static const char *mark_words(const input *log, uint64_t place)
 {
     if (place == 0)
         return "not an HPLOG file, its mark is wrong";
-    return place == log->length - FOOTER ? "the footer's mark is wrong" : "the index's mark is wrong";
+    return place == log->length - FOOTER_SIZE ? "the footer's mark is wrong" : "the index's mark is wrong";
 }
 
 /* Words of a 6 that stands in no block's header, else a null pointer. */
 static const char *layout_words(const input *log, uint64_t place)
 {
-    uint64_t dictionary = header_value(log, DICTIONARY);
-    if (place == DICTIONARY)
+    uint64_t dictionary = header_value(log, HEADER_DICTIONARY);
+    if (place == HEADER_DICTIONARY)
         return "the dictionary's offset lies outside the file";
-    if (place == COUNT)
+    if (place == HEADER_COUNT)
         return "the header counts more than 4,096 blocks";
     if (dictionary == 0)
         return NULL;
@@ -74,15 +68,15 @@ static const char *layout_words(const input *log, uint64_t place)
         return is_dictionary_whole(log, place) ? "the header counts more blocks than there are" : "the dictionary is empty or cut";
     if (place == log->length)
         return "index and footer do not end the file where they should";
-    return place == log->length - FOOTER + 8 ? "the footer gives a wrong place of the index" : NULL;
+    return place == log->length - FOOTER_SIZE + FOOTER_INDEX ? "the footer gives a wrong place of the index" : NULL;
 }
 
 /* Words of a 6 in a block's header, or where one is expected. */
 static const char *layout_block_words(const input *log, const location *at, bool *is_block)
 {
-    if (at->field == STORED)
+    if (at->field == BLOCK_STORED)
         return "stored bytes cut";
-    bool is_past = header_value(log, DICTIONARY) != 0 && at->block == header_value(log, COUNT);
+    bool is_past = header_value(log, HEADER_DICTIONARY) != 0 && at->block == header_value(log, HEADER_COUNT);
     *is_block = at->block < HPLOG_BLOCKS && !is_past;
     if (*is_block)
         return "header cut";
@@ -92,9 +86,9 @@ static const char *layout_block_words(const input *log, const location *at, bool
 static const char *rule_words(uint64_t field)
 {
     switch (field) {
-    case NUMBER: return "wrong number";
-    case START: return "start below the end before";
-    case END: return "end below the start";
+    case BLOCK_NUMBER: return "wrong number";
+    case BLOCK_START: return "start below the end before";
+    case BLOCK_END: return "end below the start";
     default: return "no entries";
     }
 }
@@ -102,17 +96,17 @@ static const char *rule_words(uint64_t field)
 /* Words of a 9; where it is in an index row, *at names the block. */
 static const char *agreement_words(const input *log, uint64_t place, location *at, bool *is_block)
 {
-    if (place == COUNT)
+    if (place == HEADER_COUNT)
         return "the header's block count is wrong";
-    if (place == FIRST)
+    if (place == HEADER_FIRST)
         return "the header's first time is not that of the first block";
-    if (place == LAST)
+    if (place == HEADER_LAST)
         return "the header's last time is not that of the last block";
-    uint64_t dictionary = header_value(log, DICTIONARY);
+    uint64_t dictionary = header_value(log, HEADER_DICTIONARY);
     uint64_t index = dictionary + 4 + bytes_u32(log->bytes + dictionary);
-    if (place < index + INDEX_HEADER)
+    if (place < index + INDEX_ROWS)
         return "the index counts other blocks than the header";
-    at->block = (place - index - INDEX_HEADER) / HPLOG_ROW;
+    at->block = (place - index - INDEX_ROWS) / HPLOG_ROW;
     *is_block = true;
     return "index differs";
 }

@@ -42,6 +42,7 @@ extern "C" {
 #define HPLOG_PANEL 16        /* bytes of a panel, see hplog_label */
 #define HPLOG_FIELD 24        /* bytes of a field to write, see hplog_add_entry */
 #define HPLOG_BLOCKS 4096     /* the most blocks that a file has */
+#define HPLOG_RUN 1           /* the kind of a listing that a program makes of a run of blocks, see hplog_listing */
 #define HPLOG_PIECE 50        /* an output of so many bytes has room for some of any listing that is left */
 
 /* What most calls answer. number is 0 where the call was accepted; count is then what the call says, and place is 0 unless it says otherwise.
@@ -120,7 +121,10 @@ hplog_field_step hplog_field(const uint8_t *payload, size_t payload_len, uint32_
  * A log with its plain book (mark PLB, u16 version 1, then u32 length and plain bytes for each block, and last for the dictionary), as text:
  * a line of totals, then a line for each entry; or, where log or book is refused, the one line of that refusal. */
 
-/* Where a listing stands. Its fields are for hplog_list_next alone. */
+/* Where a listing stands. Its fields are for hplog_list_next alone, but a program may make the listing of a run of blocks itself, of a log and a book
+ * that hplog_list accepts. Then kind is HPLOG_RUN, blocks how many there are, at the offset of the first one's header in the log and plain that of
+ * its length field in the book; dictionary and length are offset and size of the plain dictionary in the book, and names its count; from is the
+ * number of entries that the line of totals gives; all else is 0. */
 typedef struct {
     uint64_t at, plain, dictionary, length, pos, from, left;
     uint32_t blocks, names, entries;

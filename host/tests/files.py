@@ -1,10 +1,15 @@
 """Each command on good files, in both forms of output and from each kind of input."""
 
+import itertools
 import os
 import re
+import signal
 import threading
 
-from logs import AT, BLOCKS, BOOK, D, DICTIONARY, INDEX, SAMPLES, UNCLOSED, WHOLE, entry_lines, maker, plain_lines
+from logs import AT, BLOCKS, BOOK, D, DICTIONARY, INDEX, NAMES, SAMPLES, UNCLOSED, WHOLE, entry_lines, maker, plain_lines, write_long_text
+
+# A log without blocks.
+EMPTY = maker.header(64, 0, 0, 0) + WHOLE[D:INDEX] + b"HPLG_IDX" + bytes(8) + b"HPLG_END" + bytes([134]) + bytes(15)
 
 HEADINGS = "block  offset  stored  plain  entries  start                           end\n"
 
@@ -41,7 +46,7 @@ def checks(suite):
     text += f"first time  {date(0, 0)}\nlast time   {date(235, 25025)}\n"
     text += f"dictionary  byte {D:,}, stored {len(DICTIONARY)}\nindex       byte {INDEX:,}\n"
     suite.expect(["check", log], out=(text + table(range(8))).encode())
-    empty = suite.path("none.hplog", maker.header(64, 0, 0, 0) + WHOLE[D:INDEX] + b"HPLG_IDX" + bytes(8) + b"HPLG_END" + bytes([134]) + bytes(15))
+    empty = suite.path("none.hplog", EMPTY)
     suite.expect(["check", "--plain", empty], out=b"file 174 0 0 0 64 66 134\n")
     suite.expect(["check", empty], out=f"{empty}: whole, 174 bytes, 0 blocks\ndictionary  byte 64, stored 66\nindex       byte 134\n".encode())
 
@@ -86,6 +91,23 @@ def listings(suite):
     last = BLOCKS[7][0] + 20 * maker.SECOND
     suite.expect(["read", "--from", date(230, 0), log, book], out="".join(line for time, line in lines if time >= last).encode())
     suite.refused(["read", log, book, "--from", "9", "--to", "8"], 13, 9, "times", "the first time is above the second")
+
+
+def borders(suite):
+    """Blocks that meet in a time, one of a single time, and a gap; each range of times is what cat lists of it."""
+    deltas = [(0, 4), (0,), (0, 0, 3), (0, 5)]
+    plains = [b"".join(maker.entry(delta, [("wind", number)]) for delta in block) for number, block in enumerate(deltas)]
+    starts = [100, 104, 104, 110]
+    lines = [(start + delta, f"{start + delta} wind=i:{number}\n") for number, start in enumerate(starts) for delta in deltas[number]]
+    blocks = [(start, start + block[-1], len(block), plain, b"z") for start, block, plain in zip(starts, deltas, plains)]
+    log = suite.path("borders.hplog", maker.finished(blocks, b"z")[0])
+    book = suite.path("borders.plb", maker.book(plains, NAMES))
+    times = [99, 100, 103, 104, 105, 107, 108, 110, 115, 116]
+    for t1, t2 in itertools.combinations_with_replacement(times, 2):
+        kept = "".join(line for time, line in lines if t1 <= time <= t2)
+        suite.expect(["read", log, book, "--from", str(t1), "--to", str(t2)], out=kept.encode())
+    none = suite.path("none.hplog", EMPTY)
+    suite.expect(["read", none, suite.path("none.plb", maker.book([], NAMES))])
 
 
 def long_lines(suite):
@@ -166,6 +188,19 @@ def inputs(suite):
         suite.holds("a full device", process == (2, b"hplog: standard output: No space left on device\n"), repr(process))
 
 
+def closed_pipe(suite):
+    """A reader that goes away ends the command by the signal that says so, or by an error where that signal is ignored."""
+    log, book = suite.path("pipe.hplog"), suite.path("pipe.plb")
+    write_long_text(log, book, 1 << 20)
+    for ignore, wanted in ((False, (-signal.SIGPIPE, b"")), (True, (2, b"hplog: standard output: Broken pipe\n"))):
+        handler = (lambda: signal.signal(signal.SIGPIPE, signal.SIG_IGN)) if ignore else None
+        process = suite.start("cat", log, book, preexec_fn=handler)
+        front = process.stdout.read(8)
+        process.stdout.close()
+        ended = process.wait(), process.stderr.read()
+        suite.holds("a pipe that is closed", (front, ended) == (b"blocks 2", wanted), repr(ended))
+
+
 def closed_streams(suite):
     """A stream that is closed is an error where it is needed, and no file takes its place."""
     log = suite.path("closed.hplog", WHOLE)
@@ -176,4 +211,4 @@ def closed_streams(suite):
     suite.holds("the file has no message in it", (suite.folder / "closed.out").read_bytes() == WHOLE)
 
 
-GROUPS = [samples, checks, queries, recoveries, listings, long_lines, names, labels, inputs, closed_streams]
+GROUPS = [samples, checks, queries, recoveries, listings, borders, long_lines, names, labels, inputs, closed_pipe, closed_streams]

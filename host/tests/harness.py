@@ -3,8 +3,10 @@
 import os
 import pty
 import re
+import select
 import subprocess
 import sys
+import time
 from dataclasses import dataclass, field
 from pathlib import Path
 
@@ -17,6 +19,43 @@ class Result:
     status: int
     out: bytes
     err: bytes
+
+
+# Bytes that no command writes on a terminal.
+NEVER = b"\0"
+
+# Standard input is no terminal unless a test asks for it.
+ON_TERMINAL = {"stdin": subprocess.DEVNULL, "stdout": None, "stderr": None}
+
+
+@dataclass
+class Terminal:
+    """The other end of a terminal that a command runs on."""
+
+    master: int
+
+    def piece(self, seconds):
+        """What comes next; empty where nothing does in so many seconds, or ever again."""
+        try:
+            return os.read(self.master, 4096) if select.select([self.master], [], [], seconds)[0] else b""
+        except OSError:
+            return b""  # a terminal whose last writer has gone answers with an error
+
+    def now(self):
+        return self.piece(0)
+
+    def until(self, wanted):
+        """All up to the piece with the bytes wanted, or to the end."""
+        text, limit = b"", time.monotonic() + LIMIT
+        while wanted not in text and (piece := self.piece(max(0, limit - time.monotonic()))):
+            text += piece
+        return text
+
+    def rest(self):
+        """All up to the end, with lines as the command wrote them."""
+        text = self.until(NEVER)
+        os.close(self.master)
+        return text.replace(b"\r\n", b"\n")
 
 
 @dataclass
@@ -78,17 +117,17 @@ class Suite:
         """Expects status 2, nothing on standard output and one line on standard error."""
         return self.expect(words, 2, b"", re.compile(rb"hplog[^\n]*\n"), **keywords)
 
-    def terminal(self, *words, env=None):
-        """Runs the command on a terminal; gives the status and all that it wrote there."""
+    def start_on_terminal(self, *words, env=None, **streams):
+        """Starts the command with the streams that are not given on a terminal; gives the process and the terminal back."""
         master, slave = pty.openpty()
         environment = {**os.environ, "TERM": "xterm", "LC_ALL": "C", **(env or {})}
-        process = subprocess.Popen([*self.command, *words], stdin=subprocess.DEVNULL, stdout=slave, stderr=slave, env=environment)
+        streams = {name: slave if stream is None else stream for name, stream in {**ON_TERMINAL, **streams}.items()}
+        process = subprocess.Popen([*self.command, *words], **streams, env=environment)
         os.close(slave)
-        text = b""
-        try:
-            while piece := os.read(master, 4096):
-                text += piece
-        except OSError:
-            pass  # a terminal whose last writer has gone answers with an error
-        os.close(master)
-        return process.wait(LIMIT), text.replace(b"\r\n", b"\n")
+        return process, Terminal(master)
+
+    def terminal(self, *words, env=None):
+        """Runs the command on a terminal; gives the status and all that it wrote there."""
+        process, terminal = self.start_on_terminal(*words, env=env)
+        text = terminal.rest()
+        return process.wait(LIMIT), text

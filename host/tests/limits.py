@@ -1,14 +1,15 @@
-"""Large files, terminals, and files that change: what needs time, room or a terminal."""
+"""Large files, files that change, and files that may not be read or written."""
 
+import ctypes
 import os
 import resource
 import time
 
-from logs import BOOK, WHOLE, maker, patched, write_zeros
+from logs import UNCLOSED, WHOLE, maker, write_long_text, write_zeros
 
 GIB = 1 << 30
 
-# A file of a GiB of holes is answered from its front; reading it all would take longer.
+# A file of a GiB of holes is answered from its front, and blocks outside a range are not listed; either would take longer.
 QUICK = 5
 
 
@@ -32,6 +33,14 @@ def sparse(suite):
     timed(suite, ["check", zeros], 1, b"", closed)
 
 
+def skipped(suite):
+    """A range of times is read without listing the blocks around it, whose text is of two GiB each."""
+    log, book = suite.path("long.hplog"), suite.path("long.plb")
+    write_long_text(log, book, 512 << 20, [maker.entry(0, [("site", f"B{k}")]) for k in range(3)])
+    timed(suite, ["read", log, book, "--from", "1002", "--to", "1003"], 0, b'1002 site=s:"B1"\n1003 site=s:"B2"\n', b"")
+    timed(suite, ["read", log, book, "--from", "1006"], 0, b"", b"")
+
+
 def memory(suite):
     """With little memory a file can neither be mapped nor be read, which is an error of the system."""
     zeros = suite.path("memory.hplog")
@@ -42,32 +51,6 @@ def memory(suite):
         resource.setrlimit(resource.RLIMIT_AS, (64 << 20, 64 << 20))
 
     suite.expect(["check", zeros], 2, err=f"hplog: {zeros}: Cannot allocate memory\n".encode(), preexec_fn=limit)
-
-
-def colours(suite):
-    log, book = suite.path("colour.hplog", WHOLE), suite.path("colour.plb", BOOK)
-    bad = suite.path("colour.bad", patched(WHOLE, 0, b"x"))
-    plain = suite.run("check", log).out
-    status, text = suite.terminal("check", log)
-    suite.holds("headings are bold on a terminal", status == 0 and b"\033[1mblock  offset" in text, repr(text))
-    suite.holds("and nothing else changes", text.replace(b"\033[1m", b"").replace(b"\033[0m", b"") == plain, repr(text))
-    for env in ({"NO_COLOR": "1"}, {"TERM": "dumb"}):
-        suite.holds(f"no colours with {env}", suite.terminal("check", log, env=env) == (0, plain))
-    status, text = suite.terminal("check", bad)
-    suite.holds("a refusal is red on a terminal", (status, text.split(b": ")[1]) == (1, b"\033[1;31mrefused 2 0\033[0m"), repr(text))
-    suite.holds("--plain has no colours", b"\033" not in suite.terminal("check", "--plain", log)[1])
-    suite.holds("a listing has no colours", suite.terminal("cat", log, book) == (0, suite.run("cat", log, book).out))
-
-
-def progress(suite):
-    """Three GiB of holes take longer than half a second."""
-    slow = suite.path("slow.hplog")
-    write_zeros(slow, 3, GIB)
-    result = suite.run("recover", "--plain", slow)
-    suite.holds("no progress where there is no terminal", result.err == b"", repr(result.err))
-    status, text = suite.terminal("recover", "--plain", slow)
-    suite.holds("progress on a terminal", status == 0 and text.startswith(b"\rhplog: recovering, 0 s"), repr(text))
-    suite.holds("which is removed", text.endswith(b"\r\033[K" + result.out), repr(text))
 
 
 def shortened(suite):
@@ -86,4 +69,24 @@ def shortened(suite):
     suite.holds("a file that becomes shorter", answer == (2, b"", line), repr(answer))
 
 
-GROUPS = [sparse, memory, colours, progress, shortened]
+def without_override():
+    """Takes from root what lets it read and write everything; others have it not."""
+    prctl, drop_from_bounding_set, dac_override, dac_read_search = ctypes.CDLL(None).prctl, 24, 1, 2
+    prctl(drop_from_bounding_set, dac_override, 0, 0, 0)
+    prctl(drop_from_bounding_set, dac_read_search, 0, 0, 0)
+
+
+def forbidden(suite):
+    """Files that may not be read, and folders that may not be written."""
+    log, good, locked = suite.path("closed.hplog", WHOLE), suite.path("cut.hplog", UNCLOSED), suite.folder / "locked"
+    os.chmod(log, 0)
+    locked.mkdir(0o500)
+    line = f"hplog: {log}: Permission denied\n".encode()
+    for words in (["check", log], ["query", log, "0", "1"], ["recover", log], ["cat", good, log], ["names", log], ["repair", good, log, "new"]):
+        suite.expect(words, 2, err=line, preexec_fn=without_override, cwd=suite.folder)
+    line = f"hplog: {locked}/new: Permission denied\n".encode()
+    suite.expect(["repair", good, good, str(locked / "new")], 2, err=line, preexec_fn=without_override)
+    suite.holds("nothing is written", sorted(os.listdir(suite.folder)) == ["closed.hplog", "cut.hplog", "locked"] and os.listdir(locked) == [])
+
+
+GROUPS = [sparse, skipped, memory, shortened, forbidden]

@@ -3,6 +3,7 @@
 import importlib.util
 import struct
 import zlib
+from functools import cache
 from importlib.machinery import SourceFileLoader
 from pathlib import Path
 
@@ -89,15 +90,39 @@ def entry_lines():
     return lines
 
 
-def write_zeros(path, blocks, size):
-    """A sparse file that was not closed, of blocks whose stored bytes are all zero."""
+@cache
+def checksum_of_zeros(size):
     checksum = 0
     piece = bytes(1 << 20)
     for left in range(size, 0, -len(piece)):
         checksum = zlib.crc32(piece[:left], checksum)
+    return checksum
+
+
+def write_zeros(path, blocks, size):
+    """A sparse file that was not closed, of blocks whose stored bytes are all zero."""
+    checksum = checksum_of_zeros(size)
     with open(path, "wb") as file:
         file.write(maker.header(0, 0, 0, 0))
         for number in range(blocks):
             file.write(struct.pack("<IQQIIII", number, number, number, 1, size, 1, checksum))
             file.seek(size, 1)
         file.truncate()
+
+
+def write_long_text(log, book, size, plains=()):
+    """A log and its sparse book: blocks of these plain bytes, each one entry at 1001, 1002 and so on; before and behind them a block of an entry with
+    a text of so many zero bytes, at 1000 and as the last one, and of an entry without fields a nanosecond later."""
+    front, last = maker.varint(0) + bytes([1]) + struct.pack("<HB", 0, 0) + maker.varint(size), maker.entry(1, [])
+    long = range(len(front) + size + len(last))  # a log has no more of it than its length
+    parts = [long, *plains, long]
+    blocks = [(1000 + k, 1000 + k + (plain is long), 1 + (plain is long), plain, b"z") for k, plain in enumerate(parts)]
+    Path(log).write_bytes(maker.finished(blocks, b"z")[0])
+    with open(book, "wb") as file:
+        file.write(b"PLB" + struct.pack("<H", 1))
+        for plain in parts:
+            file.write(struct.pack("<I", len(plain)) + (front if plain is long else plain))
+            if plain is long:
+                file.seek(size, 1)
+                file.write(last)
+        file.write(struct.pack("<I", len(NAMES)) + NAMES)

@@ -3,6 +3,7 @@
 import os
 import resource
 import signal
+import subprocess
 import time
 
 from logs import AT, BLOCKS, D, DICTIONARY, UNCLOSED, WHOLE, maker, patched, write_zeros
@@ -84,6 +85,8 @@ def existing(suite):
         fails("missing/new", "No such file or directory", *options)
         fails("old/new", "Not a directory", *options)
         fails("missing/", "No such file or directory", *options)
+        fails("sub/", "Is a directory", *options)
+        fails("/", "Is a directory", *options)
     with open(folder / "cut", "rb") as file:
         words = ["repair", "--force", "-", "dictionary", "cut"]
         suite.expect(words, 2, err=b"hplog: cut: is one of the files to be read\n", cwd=folder, stdin=file)
@@ -108,13 +111,22 @@ def no_room(suite):
     suite.holds("nothing is left where there is no room", os.listdir(folder) == [])
 
 
+def is_made(process, folder):
+    """Whether the command has a file open in the folder, with a name or without."""
+    try:
+        entries = [f"/proc/{process.pid}/fd/{number}" for number in os.listdir(f"/proc/{process.pid}/fd")]
+        return any(os.readlink(entry).startswith(f"{folder}/") for entry in entries)
+    except OSError:
+        return False  # the command has ended, or closed a file meanwhile
+
+
 def disturbed(suite, folder, big, disturb, **keywords):
-    """Repairs a large file and disturbs the command once its temporary file is there; again where the command was done before that."""
+    """Repairs a large file and disturbs the command once its new file is there; again where the command was done before that."""
     words = ["repair", big, suite.path("dictionary", DICTIONARY), str(folder / "new")]
     for _ in range(5):
         write_zeros(big, 1, SPARSE)
         process = suite.start(*words, **keywords)
-        while not os.listdir(folder) and process.poll() is None:
+        while not is_made(process, folder) and process.poll() is None:
             time.sleep(0.001)
         disturb(process)
         _, err = process.communicate()
@@ -125,17 +137,60 @@ def disturbed(suite, folder, big, disturb, **keywords):
     return process.returncode, err
 
 
-def interrupted(suite):
-    folder = place(suite, "interrupted")
-    big = suite.path("big.hplog")
-    for number in (signal.SIGINT, signal.SIGTERM, signal.SIGHUP, signal.SIGQUIT):
-        ended = disturbed(suite, folder, big, lambda process, number=number: process.send_signal(number))
+def ended_by(suite, folder, signals, **keywords):
+    for number in signals:
+        ended = disturbed(suite, folder, suite.path("big.hplog"), lambda process, number=number: process.send_signal(number), **keywords)
         suite.holds(f"{number.name} ends the command", ended == (-number, b""), repr(ended))
         suite.holds(f"{number.name} leaves nothing", os.listdir(folder) == [], str(os.listdir(folder)))
+
+
+def has_unnamed(folder):
+    """Whether the file system has files without a name, which go away whatever ends the command."""
+    try:
+        os.close(os.open(folder, os.O_TMPFILE | os.O_RDWR))
+    except OSError:
+        return False
+    return True
+
+
+def interrupted(suite):
+    folder = place(suite, "interrupted")
+    ended_by(suite, folder, [signal.SIGINT, signal.SIGKILL] if has_unnamed(folder) else [signal.SIGINT])
+    big = suite.path("big.hplog")
     ended = disturbed(suite, folder, big, lambda process: os.truncate(big, 100))
     line = b"hplog: a file became shorter, or its disk failed, while it was in use\n"
     suite.holds("a damaged file that becomes shorter", ended == (2, line), repr(ended))
     suite.holds("leaves nothing", os.listdir(folder) == [], str(os.listdir(folder)))
+
+
+# Makes a file system of one that has files without a name that has none.
+NO_UNNAMED = b"""
+#define _GNU_SOURCE
+#include <dlfcn.h>
+#include <errno.h>
+#include <fcntl.h>
+#include <sys/types.h>
+int openat(int folder, const char *path, int flags, ...)
+{
+    int (*next)(int, const char *, int, mode_t) = (int (*)(int, const char *, int, mode_t))dlsym(RTLD_NEXT, "openat");
+    if ((flags & O_TMPFILE) == O_TMPFILE) {
+        errno = EOPNOTSUPP;
+        return -1;
+    }
+    return next(folder, path, flags, 0644);
+}
+"""
+
+
+def named(suite):
+    """The new file has a temporary name where the file system has no files without one; each signal that can be handled removes it."""
+    folder, shim = place(suite, "named"), suite.path("shim.so")
+    subprocess.run(["cc", "-shared", "-fPIC", "-x", "c", "-", "-o", shim, "-ldl"], input=NO_UNNAMED, check=True)
+    env = {"LD_PRELOAD": shim}
+    ended_by(suite, folder, [signal.SIGINT, signal.SIGTERM, signal.SIGHUP, signal.SIGQUIT], env=env)
+    cut = suite.path("cut.hplog", UNCLOSED[: AT[5] + 100])
+    suite.expect(["repair", "--plain", cut, suite.path("dictionary", DICTIONARY), "new"], out=b"file 1820 5\n", cwd=folder, env=env)
+    suite.holds("the finished file stands alone", contents(folder) == {"new": maker.finished(BLOCKS[:5], DICTIONARY)[0]})
 
 
 def closed_streams(suite):
@@ -152,4 +207,4 @@ def closed_streams(suite):
     suite.holds("the standard streams are no files", links == ["/dev/null"] * 3, str(links))
 
 
-GROUPS = [written, refusals, existing, no_room, interrupted, closed_streams]
+GROUPS = [written, refusals, existing, no_room, interrupted, named, closed_streams]

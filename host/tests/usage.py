@@ -16,6 +16,8 @@ def helps(suite):
         suite.holds(f"help names {name}", re.search(rf"^  {name} ".encode(), every, re.MULTILINE) is not None)
         text = suite.expect([name, "--help"], out=re.compile(rb"usage: hplog %s .*--plain .*" % name.encode(), re.DOTALL)).out
         suite.expect([name, "-h", "more", "than", "it", "takes"], out=text)
+        every += text
+    suite.holds("help fits a terminal of 80 columns", max(map(len, every.splitlines())) <= 80)
 
 
 def wrong_usage(suite):
@@ -27,6 +29,13 @@ def wrong_usage(suite):
         suite.expect([name, "--frob", log], 2, err=f"hplog {name}: no such option: '--frob' (see hplog {name} --help)\n".encode())
         if name != "names":
             suite.wrong([name, *["1"] * (count + 1)])
+    for name in ("--plain", "-x"):
+        suite.expect([name, "check", log], 2, err=f"hplog: no such option: '{name}' (see hplog --help)\n".encode())
+    for name in ("--from", "--to"):
+        suite.expect(["read", log, log, name], 2, err=f"hplog read: no time behind the option '{name}' (see hplog read --help)\n".encode())
+        suite.wrong(["read", log, log, f"{name}="])
+        suite.wrong(["read", log, log, f"{name}s", "1"])
+    suite.expect(["check", ""], 2, err=b"hplog: '': No such file or directory\n")
     suite.wrong(["check", "--force", log])
     suite.wrong(["check", "--from", "0", log])
     suite.wrong(["cat", "-", "-"])

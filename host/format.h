@@ -1,0 +1,11 @@
+/* Where the fields of a log's parts stand, from the part's front on; sizes that hplog.h has not. */
+#ifndef HOST_FORMAT_H
+#define HOST_FORMAT_H
+
+enum { HEADER_DICTIONARY = 10, HEADER_COUNT = 18, HEADER_FIRST = 26, HEADER_LAST = 34 };
+enum { BLOCK_NUMBER = 0, BLOCK_START = 4, BLOCK_END = 12, BLOCK_ENTRIES = 20, BLOCK_STORED = 24, BLOCK_PLAIN = 28 };
+enum { ROW_START = 0, ROW_END = 8, ROW_OFFSET = 16, ROW_STORED = 24 };
+enum { INDEX_ROWS = 16 };
+enum { FOOTER_INDEX = 8, FOOTER_SIZE = 24 };
+
+#endif
