@@ -1,5 +1,6 @@
 -- Laws of what is computed from a list in the tables' place, whatever it holds. Assumes nothing.
 use mathlib.Core.Path.{_≡_, refl, sym, ap, ap₂, _∙_}
+use mathlib.Core.Bool.{false}
 use mathlib.Core.List.{List}
 use Prim.Native.Nat.{ℕ, zero, suc, _+_, _-_, _*_, _/_, _%_, _^_, _<_, _≤_}
 use native.Mathlib.Nat.{add-zero, add-suc, add-assoc, div-one, div-div-eq-div-mul, mod-eq-of-lt, pow-suc, pow-succ', one-le-pow}
@@ -13,7 +14,7 @@ use lib.Seq.{drop-cons, drop-drop}
 use lib.Bits.{bitXor, xor-shr, xor-mod, xor-zero-r}
 use Rattle.wire.specs.Wire.{leAt}
 use Rattle.crc32.specs.Fold.{reduced}
-use Rattle.crc32.specs.Tables.{byteBy, bytesBy, sliced, sixteensBy, registerBy, checksumBy}
+use Rattle.crc32.specs.Tables.{unmade, byteBy, bytesBy, sliced, sixteensBy, registerBy, madeBy, checksumBy}
 use Rattle.crc32.proofs.Xor.{xor-swap}
 
 module _ (t : List ℕ) where
@@ -85,10 +86,11 @@ module _ (t : List ℕ) where
   register-parts s start c r e f = rw (f, e)
 
   -- the checksum of a short input, and of a long one by what it's folded to
-  pub checksum-short : (s : List ℕ) (r : ℕ) → length s < 512 → r ≡ registerBy t 0xFFFFFFFF s → bitXor r 0xFFFFFFFF ≡ checksumBy t s
-  unfolding checksumBy
-  checksum-short s r h e = rw (lt-ltb (length s) 512 h, e)
+  module _ (made : unmade t ≡ false) where
+    pub checksum-short : (s : List ℕ) (r : ℕ) → length s < 512 → r ≡ registerBy t 0xFFFFFFFF s → bitXor r 0xFFFFFFFF ≡ checksumBy t s
+    unfolding checksumBy madeBy
+    checksum-short s r h e = rw (made, lt-ltb (length s) 512 h, e)
 
-  pub checksum-long : (s rest : List ℕ) (r : ℕ) → 512 ≤ length s → rest ≡ reduced s → r ≡ registerBy t 0 rest → bitXor r 0xFFFFFFFF ≡ checksumBy t s
-  unfolding checksumBy
-  checksum-long s rest r h f e = rw (le-ltb (length s) 512 h, e, f)
+    pub checksum-long : (s rest : List ℕ) (r : ℕ) → 512 ≤ length s → rest ≡ reduced s → r ≡ registerBy t 0 rest → bitXor r 0xFFFFFFFF ≡ checksumBy t s
+    unfolding checksumBy madeBy
+    checksum-long s rest r h f e = rw (made, le-ltb (length s) 512 h, e, f)

@@ -1,5 +1,6 @@
 -- With the tables' own entries, what is computed from them is the CRC-32. Assumes nothing.
 use mathlib.Core.Path.{_≡_, refl, sym, ap, ap₂, _∙_}
+use mathlib.Core.Bool.{true, false}
 use mathlib.Core.List.{List, [], _∷_}
 use Prim.Native.Nat.{ℕ, zero, suc, _+_, _*_, _/_, _%_, _^_, _<_, _≤_}
 use native.Mathlib.Nat.{zero-add, pow-suc, lt-of-lt-of-le}
@@ -7,15 +8,15 @@ use native.Mathlib.Decide.{decLe}
 use native.Mathlib.Omega.{arith}
 use borrow.Author.Tests.{lt-ltb, le-ltb}
 use lib.Dec.{lit<, lit≤}
-use lib.ListN.{length, getD, take, drop, take-append-drop, length-drop}
+use lib.ListN.{length, getD, set, take, drop, take-append-drop, length-drop}
 use lib.Seq.{take-add}
 use lib.Bits.{bitXor, xor-lt}
 use Rattle.wire.specs.Wire.{Bytes, fromLe}
 use Rattle.wire.proofs.Lists.{bytes-drop, bytes-take}
 use Rattle.wire.proofs.Numbers.{fromLe-below}
-use Rattle.crc32.specs.Crc.{steps, byteStep, crcFrom, crc32}
+use Rattle.crc32.specs.Crc.{bitStep, steps, byteStep, crcFrom, crc32}
 use Rattle.crc32.specs.Fold.{reduced}
-use Rattle.crc32.specs.Tables.{Tables, byteBy, bytesBy, sliced, sixteensBy, registerBy, checksumBy}
+use Rattle.crc32.specs.Tables.{Tables, unmade, Prepared, byteBy, bytesBy, sliced, sixteensBy, registerBy, madeBy, checksumBy}
 use Rattle.crc32.proofs.Steps.{low-out, steps-zero}
 use Rattle.crc32.proofs.Register.{crc-append, crc-small, word}
 use Rattle.crc32.proofs.Fold.{reduced-crc, bytes-reduced}
@@ -73,10 +74,9 @@ module _ (t : List ℕ) (holds : Tables t) where
       ∙ ap (λ (x : ℕ). crcFrom x (drop m s)) (sixteens-tabled (length s / 16) c s h b (omega arith))
       ∙ sym (crc-append c (take m s) (drop m s)) ∙ ap (crcFrom c) (take-append-drop m s)
 
--- the law that callers of `checksum_with` use
-pub tabled : (t s : List ℕ) → Tables t → Bytes s → checksumBy t s ≡ crc32 s
-unfolding checksumBy crc32
-tabled t s holds b =
+made-tabled : (t s : List ℕ) → Tables t → Bytes s → madeBy t s ≡ crc32 s
+unfolding madeBy crc32
+made-tabled t s holds b =
     elim (decLe 512 (length s)) [
       | yes l ↦
           rw (le-ltb (length s) 512 l)
@@ -85,3 +85,40 @@ tabled t s holds b =
           (let h : length s < 512 = omega arith in
           rw (lt-ltb (length s) 512 h) (ap (λ (x : ℕ). bitXor x 0xFFFFFFFF) (register-tabled t holds 0xFFFFFFFF s (omega arith) b)))
     ]
+
+-- tables that are made, and none
+pub is-made : (t : List ℕ) → Tables t → unmade t ≡ false
+unfolding unmade steps bitStep
+is-made t holds = rw (holds .entry 0 1 (lit< tt) (lit< tt))
+
+pub is-unmade : (t : List ℕ) → unmade (set t 1 0) ≡ true
+unfolding unmade
+is-unmade t = rw (second t)
+  where
+    second : (l : List ℕ) → getD (set l 1 0) 1 0 ≡ 0
+    second [] = refl
+    second (x ∷ []) = refl
+    second (x ∷ y ∷ l) = refl
+
+pub unmade-sum : (t s : List ℕ) → unmade t ≡ true → checksumBy t s ≡ crc32 s
+unfolding checksumBy
+unmade-sum t s e = rw e
+
+-- by which the checksum of every list of bytes is the CRC-32
+abbrev pub Sums : List ℕ → Type 0
+Sums t = (s : List ℕ) → Bytes s → checksumBy t s ≡ crc32 s
+
+pub tabled : (t : List ℕ) → Tables t → Sums t
+unfolding checksumBy
+tabled t holds s b = rw (is-made t holds) (made-tabled t s holds b)
+
+-- the law that callers of `checksum_with` use
+pub prepared : (size : ℕ) (t r : List ℕ) → Prepared size t r → Sums r
+prepared size t r p s b =
+    elim (decLe 512 size) [
+      | yes l ↦ tabled r (p .many l) s b
+      | no l ↦ rw (p .few (omega arith)) (none t s)
+    ]
+  where
+    none : (t s : List ℕ) → checksumBy (set t 1 0) s ≡ crc32 s
+    none t s = unmade-sum (set t 1 0) s (is-unmade t)

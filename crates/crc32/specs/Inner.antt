@@ -13,9 +13,13 @@ entryAt i = steps ((i / 256 + 1) * 8) (i % 256)
 abbrev pub Filled : List ℕ → ℕ → Type 0
 Filled t i = (k : ℕ) → k < i → getD t k 0 ≡ entryAt k
 
--- the window that bytes are folded through: 300 that were taken out, and room for 2,048 more
+-- the n entries from a place on, beside the tables
+abbrev pub FilledFrom : ℕ → List ℕ → ℕ → Type 0
+FilledFrom at t n = (k : ℕ) → k < n → getD t k 0 ≡ entryAt (at + k)
+
+-- the window that bytes are folded through: 300 that were taken out, and room for 1,024 more
 abbrev pub windowSize : ℕ
-windowSize = 2348
+windowSize = 1324
 
 -- the bytes of a window from 300 on are 0 up to an end
 abbrev pub Clear : List ℕ → ℕ → Type 0

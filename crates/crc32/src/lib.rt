@@ -1,13 +1,13 @@
 // CRC-32 of ITU-T V.42: a long input is folded onto its last 304 bytes, and these go by sixteen tables, sixteen bytes at a time.
 ghost use mathlib.Core.Path.{_≡_};
-ghost use Prim.Native.Nat.{_+_, _/_, _%_, _<_, _≤_, min};
+ghost use Prim.Native.Nat.{_+_, _-_, _/_, _%_, _<_, _≤_, min};
 ghost use lib.ListN.{length, take, drop};
 ghost use lib.Bits.{bitXor};
 ghost use Rattle.wire.specs.Wire.{leAt};
 ghost use Rattle.crc32.specs.Crc.{bitStep, steps, crc32};
 ghost use Rattle.crc32.specs.Fold.{initial, folded, merged, reduced};
-ghost use Rattle.crc32.specs.Inner.{entryAt, Filled, windowSize, Clear};
-ghost use Rattle.crc32.specs.Tables.{Tables, byteBy, bytesBy, sliced, sixteensBy, registerBy, checksumBy};
+ghost use Rattle.crc32.specs.Inner.{entryAt, Filled, FilledFrom, windowSize, Clear};
+ghost use Rattle.crc32.specs.Tables.{Prepared, byteBy, bytesBy, sliced, sixteensBy, registerBy, checksumBy};
 
 fn least(a: usize, b: usize) -> usize
     ensures { λ r. ⌜ r ≡ min a b ⌝ }
@@ -59,51 +59,69 @@ fn first_row(t: &mut [u32], at: usize)
     }
 }
 
+// The first sixteen entries of the table at an offset, beside it: so the loop over them below is one of whole vectors.
+fn row_at(t: &[u32], at: usize) -> [u32; 16]
+    requires { ⌜ (at + 16 ≤ length (now t)) × (length (now t) ≤ 4096) × Filled (now t) (at + 16) ⌝ }
+    ensures { λ r. ⌜ (length r ≡ 16) × FilledFrom at r 16 ⌝ }
+{
+    let mut row = [0u32; 16];
+    let mut i = 0;
+    while i < 16 {
+        row[i] = t[at + i];
+        i += 1;
+    }
+    row
+}
+
 // Sixteen entries more, each the sum of the first of them and of one of the table's first sixteen: steps are linear.
-fn next_row(t: &mut [u32], at: usize)
-    requires { ⌜ (at + 16 ≤ length (now t)) × (length (now t) ≤ 4096) × Filled (now t) at × (at % 16 ≡ 0) × (16 ≤ at % 256) ⌝ }
+fn next_row(t: &mut [u32], at: usize, first: &[u32; 16])
+    requires { ⌜ (at + 16 ≤ length (now t)) × (length (now t) ≤ 4096) × Filled (now t) at × (at % 16 ≡ 0) × FilledFrom (at - at % 256) (now first) 16 ⌝ }
     ensures { λ _. ⌜ Filled (now (t .exit)) (at + 16) ⌝ }
 {
     let x = next_entry(t, at);
-    let first = at - at % 256;
     let mut i = 0;
     while i < 16 {
-        t[at + i] = x ^ t[first + i];
+        t[at + i] = x ^ first[i];
         i += 1;
     }
 }
 
-// Sixteen entries more.
-fn row(t: &mut [u32], at: usize)
-    requires { ⌜ (at + 16 ≤ length (now t)) × (length (now t) ≤ 4096) × Filled (now t) at × (at % 16 ≡ 0) ⌝ }
-    ensures { λ _. ⌜ Filled (now (t .exit)) (at + 16) ⌝ }
+// One table more.
+fn table(t: &mut [u32], at: usize)
+    requires { ⌜ (at + 256 ≤ length (now t)) × (length (now t) ≤ 4096) × Filled (now t) at × (at % 256 ≡ 0) ⌝ }
+    ensures { λ _. ⌜ Filled (now (t .exit)) (at + 256) ⌝ }
 {
-    if at % 256 == 0 {
-        first_row(t, at);
-        return;
+    first_row(t, at);
+    let first = row_at(t, at);
+    let mut next = at + 16;
+    while next < at + 256 {
+        next_row(t, next, &first);
+        next += 16;
     }
-    next_row(t, at);
 }
 
-// As many entries as there is room for.
+// As many tables as there is room for.
 fn fill(t: &mut [u32])
-    requires { ⌜ (length (now t) ≤ 4096) × (length (now t) % 16 ≡ 0) ⌝ }
+    requires { ⌜ (length (now t) ≤ 4096) × (length (now t) % 256 ≡ 0) ⌝ }
     ensures { λ _. ⌜ Filled (now (t .exit)) (length (now (t .entry))) ⌝ }
 {
     let mut at = 0;
     while at < t.len() {
-        row(t, at);
-        at += 16;
+        table(t, at);
+        at += 256;
     }
 }
 
-// The tables, for whoever takes several checksums.
-pub fn tables() -> [u32; 4096]
-    ensures { λ r. ⌜ Tables r ⌝ }
+// Makes the tables, for whoever takes several checksums, of so many bytes in all. For few bytes they aren't worth it: each checksum then makes the first
+// of them itself.
+pub fn prepare(t: &mut [u32; 4096], size: usize)
+    ensures { λ _. ⌜ Prepared size (now (t .entry)) (now (t .exit)) ⌝ }
 {
-    let mut t = [0u32; 4096];
-    fill(&mut t);
-    t
+    if size < 512 {
+        t[1] = 0;
+        return;
+    }
+    fill(t);
 }
 
 // The first of the tables alone.
@@ -181,7 +199,7 @@ fn register_by(t: &[u32; 4096], start: u32, s: &[u8]) -> u32
 // How far a byte that is taken out reaches, and how many are taken out before the window is moved on.
 const REACH: usize = 300;
 
-const CHUNK: usize = 2048;
+const CHUNK: usize = 1024;
 
 const WINDOW: usize = REACH + CHUNK;
 
@@ -201,7 +219,7 @@ fn first_window() -> [u8; WINDOW]
 
 // Takes n bytes out, from an offset on. The window begins with the last 300 that were taken out; the next are put behind them.
 fn fold_chunk(window: &mut [u8], s: &[u8], at: usize, n: usize)
-    requires { ⌜ (length (now window) ≡ windowSize) × (n ≤ 2048) × (at + n ≤ length (now s)) ⌝ }
+    requires { ⌜ (length (now window) ≡ windowSize) × (n ≤ 1024) × (at + n ≤ length (now s)) ⌝ }
     ensures { λ _. ⌜ (length (now (window .exit)) ≡ windowSize) × (take 300 (drop n (now (window .exit))) ≡ folded n (take 300 (now (window .entry))) (drop at (now (s .entry)))) ⌝ }
 {
     let mut i = 0;
@@ -214,7 +232,7 @@ fn fold_chunk(window: &mut [u8], s: &[u8], at: usize, n: usize)
 
 // Moves the window on by n bytes.
 fn slide(window: &mut [u8], n: usize)
-    requires { ⌜ (length (now window) ≡ windowSize) × (n ≤ 2048) ⌝ }
+    requires { ⌜ (length (now window) ≡ windowSize) × (n ≤ 1024) ⌝ }
     ensures { λ _. ⌜ (length (now (window .exit)) ≡ windowSize) × (take 300 (now (window .exit)) ≡ take 300 (drop n (now (window .entry)))) ⌝ }
 {
     let mut i = 0;
@@ -268,18 +286,7 @@ fn reduce(s: &[u8]) -> [u8; LEFT]
     merge(&window, s, end)
 }
 
-// The checksum by tables made before: with those of `tables` it's the CRC-32.
-pub fn checksum_with(t: &[u32; 4096], s: &[u8]) -> u32
-    ensures { λ r. ⌜ r ≡ checksumBy (now (t .entry)) (now (s .entry)) ⌝ }
-{
-    if s.len() < 512 {
-        return register_by(t, 0xFFFF_FFFF, s) ^ 0xFFFF_FFFF;
-    }
-    let rest = reduce(s);
-    register_by(t, 0, &rest) ^ 0xFFFF_FFFF
-}
-
-// The checksum by the first table alone, one byte after the other: the others cost more than they save on a short input.
+// The checksum by the first table alone, one byte after the other: the others cost more than they save on few bytes.
 fn short_checksum(s: &[u8]) -> u32
     ensures { λ r. ⌜ r ≡ crc32 (now (s .entry)) ⌝ }
 {
@@ -287,12 +294,27 @@ fn short_checksum(s: &[u8]) -> u32
     bytes_by(&t, 0xFFFF_FFFF, s, 0) ^ 0xFFFF_FFFF
 }
 
+// The checksum by tables made before: with those of `prepare` it's the CRC-32.
+pub fn checksum_with(t: &[u32; 4096], s: &[u8]) -> u32
+    ensures { λ r. ⌜ r ≡ checksumBy (now (t .entry)) (now (s .entry)) ⌝ }
+{
+    if t[1] == 0 {
+        return short_checksum(s);
+    }
+    if s.len() < 512 {
+        return register_by(t, 0xFFFF_FFFF, s) ^ 0xFFFF_FFFF;
+    }
+    let rest = reduce(s);
+    register_by(t, 0, &rest) ^ 0xFFFF_FFFF
+}
+
 pub fn checksum(s: &[u8]) -> u32
     ensures { λ r. ⌜ r ≡ crc32 (now (s .entry)) ⌝ }
 {
-    if s.len() < 384 {
+    if s.len() < 256 {
         return short_checksum(s);
     }
-    let t = tables();
+    let mut t = [0u32; 4096];
+    fill(&mut t);
     checksum_with(&t, s)
 }

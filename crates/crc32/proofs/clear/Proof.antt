@@ -12,7 +12,7 @@ use Rattle.crc32.proofs.clear.Tie as tie
 
 -- the bytes from 300 to i are cleared
 abbrev Inv-loop : tie.InvT-loop
-Inv-loop window₀ i₀ window i = (300 ≤ i) × ((i ≤ 459) × ((length window ≡ 2348) × ((take 300 window ≡ take 300 window₀) × Clear window i)))
+Inv-loop window₀ i₀ window i = (300 ≤ i) × ((i ≤ 459) × ((length window ≡ 1324) × ((take 300 window ≡ take 300 window₀) × Clear window i)))
 
 abbrev μ-loop : tie.MeasureT-loop
 μ-loop window₀ i₀ window i = 459 - i

@@ -10,7 +10,7 @@ use Rattle.crc32.proofs.fill.Tie as tie
 
 -- the entries before a place are made
 abbrev Inv-loop : tie.InvT-loop
-Inv-loop t₀ at₀ t at = (at ≤ length t₀) × (at % 16 ≡ 0) × (length t ≡ length t₀) × Filled t at
+Inv-loop t₀ at₀ t at = (at ≤ length t₀) × (at % 256 ≡ 0) × (length t ≡ length t₀) × Filled t at
 
 abbrev μ-loop : tie.MeasureT-loop
 μ-loop t₀ at₀ t at = length t₀ - at
@@ -18,11 +18,11 @@ abbrev μ-loop : tie.MeasureT-loop
 loop-holds : tie.Need-loop-holds Inv-loop μ-loop
 loop-holds c = (search needs, search needs, refl, λ k h. absurd (omega arith))
 
-row-requires : tie.Need-row-requires Inv-loop μ-loop
-row-requires c κs = (omega arith, search needs, c .before .before .loop .inv .3, search needs)
+table-requires : tie.Need-table-requires Inv-loop μ-loop
+table-requires c κs = (omega arith, search needs, c .before .before .loop .inv .3, search needs)
 
 loop-again : tie.Need-loop-again Inv-loop μ-loop
-loop-again c = (omega arith, omega arith, search needs, c .before .before .row .ensures)
+loop-again c = (omega arith, omega arith, search needs, c .before .before .table .ensures)
 
 returns : tie.Need-returns Inv-loop μ-loop
 returns c = λ k h. c .before .loop .inv .3 k (omega arith)
@@ -30,4 +30,4 @@ returns c = λ k h. c .before .loop .inv .3 k (omega arith)
 pub fill-spec : {M : Type 1} → statement M
 fill-spec =
     tie.close
-    (tie.spec Inv-loop μ-loop loop-holds row-requires (λ c. search needs) (λ c. search needs) loop-again (λ c. search needs) returns)
+    (tie.spec Inv-loop μ-loop loop-holds table-requires (λ c. search needs) (λ c. search needs) loop-again (λ c. search needs) returns)

@@ -13,7 +13,7 @@ use Rattle.crc32.proofs.fold_chunk.Tie as tie
 -- what is left to take out, from the window at i, gives what all gives from the start
 abbrev Inv-loop : tie.InvT-loop
 Inv-loop window₀ s at n i₀ window i =
-    (i ≤ n) × ((length window ≡ 2348) × (folded (n - i) (take 300 (drop i window)) (drop (at + i) s) ≡ folded n (take 300 window₀) (drop at s)))
+    (i ≤ n) × ((length window ≡ 1324) × (folded (n - i) (take 300 (drop i window)) (drop (at + i) s) ≡ folded n (take 300 window₀) (drop at s)))
 
 abbrev μ-loop : tie.MeasureT-loop
 μ-loop window₀ s at n i₀ window i = n - i

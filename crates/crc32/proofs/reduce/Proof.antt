@@ -13,7 +13,7 @@ use Rattle.crc32.proofs.reduce.Tie as tie
 -- what is left to take out, from the window and the place, gives what all gives from the start
 abbrev Inv-loop : tie.InvT-loop
 Inv-loop s window₀ end at₀ window at =
-    (at ≤ end) × ((length window ≡ 2348) × (folded (end - at) (take 300 window) (drop at s) ≡ folded end initial s))
+    (at ≤ end) × ((length window ≡ 1324) × (folded (end - at) (take 300 window) (drop at s) ≡ folded end initial s))
 
 abbrev μ-loop : tie.MeasureT-loop
 μ-loop s window₀ end at₀ window at = end - at

@@ -10,7 +10,7 @@ use Rattle.crc32.proofs.slide.Tie as tie
 
 -- the bytes before i are in place, and those from i on are as they were
 abbrev Inv-loop : tie.InvT-loop
-Inv-loop window₀ n i₀ window i = (i ≤ 300) × ((length window ≡ 2348) × ((drop i window ≡ drop i window₀) × (take i window ≡ take i (drop n window₀))))
+Inv-loop window₀ n i₀ window i = (i ≤ 300) × ((length window ≡ 1324) × ((drop i window ≡ drop i window₀) × (take i window ≡ take i (drop n window₀))))
 
 abbrev μ-loop : tie.MeasureT-loop
 μ-loop window₀ n i₀ window i = 300 - i
