@@ -23,9 +23,11 @@ loop-again : tie.Need-loop-again Inv-loop μ-loop
 loop-again c =
     let l = c .before .before .loop in
     let start = c .before .before .before in
-    let at = start .args .at in
-    (search needs, simp length-set (l .inv .1),
-    made-more (λ k. entryAt (at + k)) (l .row) (l .i) _ (omega arith) (start .pre .2 (at + l .i) (omega arith)) (l .inv .2))
+    let at = start .args .at in (
+      search needs,
+      simp length-set (l .inv .1),
+      made-more (λ k. entryAt (at + k)) (l .row) (l .i) _ (omega arith) (start .pre .2 (at + l .i) (omega arith)) (l .inv .2),
+    )
 
 returns : tie.Need-returns Inv-loop μ-loop
 returns c = (c .before .loop .inv .1, λ k h. c .before .loop .inv .2 k (omega arith))
