@@ -1,2 +1,3 @@
--- The definition of an answer at the C edge. Assumes nothing.
+-- The definitions of what the calls of the C edge answer. Assumes nothing.
 pub mod Answer
+pub mod Rules

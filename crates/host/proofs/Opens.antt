@@ -17,7 +17,7 @@ use Rattle.reader.proofs.Sound.{laid}
 use Rattle.answer.specs.declared.Answer.{Answer}
 use Rattle.answer.specs.Answer.{answered}
 use Rattle.host.specs.Open.{frameBytes, hostOpenRules, hostOpenOf, hostOpenRows, hostOpenFrame}
-use Rattle.host.proofs.Lacking.{lacking, lacking-broken, lacking-sound, lacking-rules, lacking-never, roomy-rules}
+use Rattle.answer.proofs.Lacking.{lacking, lacking-broken, lacking-sound, lacking-rules, lacking-never, roomy-rules}
 
 -- ---- where the frame has no room, by what the checks of opening say
 

@@ -1,28 +1,12 @@
--- Laws of the records that the calls write: numbers stored one after another. Assumes nothing.
-use mathlib.Core.Path.{_≡_, refl, sym, ap, _∙_}
-use mathlib.Core.Bool.{Bool}
-use mathlib.Core.List.{List, [], _∷_, _++_, append-assoc, append-nil}
-use Prim.Native.Nat.{ℕ, _+_, _*_, _-_, _≤_}
-use native.Mathlib.Nat.{add-sub-cancel-left}
-use native.Mathlib.Omega.{arith}
-use lib.ListN.{length, take, drop, length-append, length-take, length-drop, drop-of-length-le}
-use lib.Seq.{drop-drop}
-use Rattle.verdict.specs.Rules.{Verdict}
-use Rattle.wire.specs.Wire.{le, splice}
-use Rattle.wire.proofs.Numbers.{length-le}
-use Rattle.wire.proofs.Splices.{splice-nil, splice-join, splice-parts}
-use Rattle.parts.specs.declared.IndexRow.{IndexRow}
-use Rattle.parts.specs.declared.time.Epoch.{Epoch}
+-- The record of a frame: numbers stored one after another. Assumes nothing.
+use mathlib.Core.Path.{_≡_, ap, _∙_}
+use mathlib.Core.List.{List, [], _∷_, append-nil}
+use Prim.Native.Nat.{ℕ}
+use Rattle.wire.specs.Wire.{splice}
 use Rattle.parts.specs.Parts.{Field, field, spelled}
 use Rattle.parts.proofs.Fields.{Stored, stored}
 use Rattle.frame.specs.declared.Frame.{Frame}
-use Rattle.query.specs.Query.{chosen}
-use Rattle.query.proofs.Chosen.{chosen-cons, chosen-nil}
 use Rattle.host.specs.Open.{frameBytes}
-use Rattle.host.specs.Query.{numbersBytes}
-use Rattle.host.specs.Recover.{stopNumber, stopPlace, flagOf, reportBytes}
-
--- ---- a frame and a report
 
 abbrev pub frameFields : Frame → List Field
 frameFields r =
@@ -31,65 +15,3 @@ frameFields r =
 pub frame-stored : (r : Frame) {l n : List ℕ} → Stored 0 l (frameFields r) n → n ≡ splice l 0 (frameBytes r)
 unfolding frameBytes spelled
 frame-stored r {l} s = stored (frameFields r) s ∙ ap (splice l 0) (simp append-nil)
-
-abbrev pub reportFields : (end number place whole : ℕ) → List Field
-reportFields end number place whole = field 8 end ∷ field 8 number ∷ field 8 place ∷ field 8 whole ∷ []
-
-pub report-stored : (end number place whole : ℕ) (stop : Verdict) (w : Bool) {l n : List ℕ}
-    → number ≡ stopNumber stop → place ≡ stopPlace stop → whole ≡ flagOf w
-    → Stored 0 l (reportFields end number place whole) n → n ≡ splice l 0 (reportBytes end stop w)
-unfolding reportBytes spelled
-report-stored end number place whole stop w {l} a b c s =
-    stored (reportFields end number place whole) s ∙ ap (splice l 0) (rw (sym a, sym b, sym c) (simp append-nil))
-
--- ---- numbers, four bytes each
-
-pub length-numbers : (ns : List ℕ) → length (numbersBytes ns) ≡ 4 * length ns
-unfolding numbersBytes
-length-numbers [] = refl
-length-numbers (n ∷ ns) = omega (arith, length-append (le 4 n) (numbersBytes ns), length-le 4 n, length-numbers ns)
-
-numbers-append : (ns ms : List ℕ) → numbersBytes (ns ++ ms) ≡ numbersBytes ns ++ numbersBytes ms
-unfolding numbersBytes
-numbers-append [] ms = refl
-numbers-append (n ∷ ns) ms = rw (numbers-append ns ms, append-assoc (le 4 n) (numbersBytes ns) (numbersBytes ms))
-
-pub numbers-one : (n : ℕ) → numbersBytes (n ∷ []) ≡ le 4 n
-unfolding numbersBytes
-numbers-one n = append-nil (le 4 n)
-
-pub numbers-none : (l : List ℕ) (at : ℕ) → splice l at (numbersBytes []) ≡ l
-unfolding numbersBytes
-numbers-none l at = splice-nil l at
-
--- the part of a slice that they take up, lent and back again
-pub part-back : (l : List ℕ) (at n : ℕ) (xs r : List ℕ) → length xs ≡ n → at + n ≤ length l → r ≡ splice (take (at + n - at) (drop at l)) 0 xs
-    → take at l ++ (r ++ drop (at + n - at) (drop at l)) ≡ splice l at xs
-part-back l at n xs r e h w =
-    let k : at + n ≡ at + length xs = omega (arith, e) in
-    let f : 0 + length xs ≤ length (take (length xs) (drop at l)) = simp (length-take, length-drop) (omega (arith, e)) in
-    let g : length (take (length xs) (drop at l)) ≤ 0 + length xs = simp (length-take, length-drop) (omega (arith, e)) in
-    rw (
-      w,
-      k,
-      add-sub-cancel-left at (length xs),
-      splice-parts (take (length xs) (drop at l)) xs 0 f,
-      drop-of-length-le (take (length xs) (drop at l)) g,
-      append-nil xs,
-      drop-drop (length xs) at l,
-    )
-    (sym (splice-parts l xs at (omega (arith, e))))
-
--- ---- the numbers of the listed rows, row by row: what is left to be laid over the output, before and after a turn, and where none is left
-
-module _ (t1 t2 : Epoch) (out : List ℕ) (at i : ℕ) where
-  pub put-turn : (r : IndexRow) (rs : List IndexRow)
-      → splice (splice out at (numbersBytes (chosen t1 t2 i (r ∷ [])))) (at + 4 * length (chosen t1 t2 i (r ∷ []))) (numbersBytes (chosen t1 t2 (i + 1) rs))
-      ≡ splice out at (numbersBytes (chosen t1 t2 i (r ∷ rs)))
-  put-turn r rs =
-      let one = chosen t1 t2 i (r ∷ []) in
-      let rest = chosen t1 t2 (i + 1) rs in
-      rw (← length-numbers one, chosen-cons t1 t2 r i rs, numbers-append one rest) (splice-join out (numbersBytes one) (numbersBytes rest) at)
-
-  pub put-end : splice out at (numbersBytes (chosen t1 t2 i [])) ≡ out
-  put-end = rw (chosen-nil t1 t2 i) (numbers-none out at)

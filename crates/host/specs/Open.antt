@@ -1,19 +1,16 @@
 -- Opening a file at the C edge. Assumes nothing.
 use mathlib.Core.List.{List, [], _∷_, _++_}
-use Prim.Native.Nat.{ℕ, _%_}
+use Prim.Native.Nat.{ℕ}
 use lib.ListN.{length}
-use Rattle.verdict.specs.Rules.{Rule, equal, atLeast, ifSound, firstBroken, settle}
+use Rattle.verdict.specs.Rules.{Rule, atLeast, ifSound, firstBroken, settle}
 use Rattle.wire.specs.Wire.{le, splice}
-use Rattle.rows.specs.Rows.{stride, tableBytes}
+use Rattle.rows.specs.Rows.{tableBytes}
 use Rattle.frame.specs.declared.Frame.{Frame}
 use Rattle.frame.specs.Frame.{frameOf}
 use Rattle.reader.specs.Open.{rowsIn, callRules}
 use Rattle.answer.specs.declared.Answer.{Answer}
 use Rattle.answer.specs.Answer.{answered}
-
--- a length of rows that isn't a multiple of a row's: 6, place = that length
-abbrev pub wholeRows : ℕ → Rule
-wholeRows n = equal 6 n (n % stride) 0
+use Rattle.answer.specs.Rules.{wholeRows}
 
 -- "five u64: dictionary place, its stored size, index place, first time, last time"
 unfoldable pub frameBytes : Frame → List ℕ

@@ -1,0 +1,2 @@
+-- The laws of what the calls of the C edge answer.
+pub mod Lacking

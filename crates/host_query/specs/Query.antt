@@ -1,0 +1,44 @@
+-- The choice of blocks at the C edge. Assumes nothing.
+use mathlib.Core.List.{List, [], _∷_, _++_}
+use Prim.Native.Nat.{ℕ, _*_, _/_}
+use lib.ListN.{length}
+use Rattle.verdict.specs.Rules.{Rule, atLeast, atMost, ifSound, firstBroken, settle}
+use Rattle.wire.specs.Wire.{le, splice}
+use Rattle.parts.specs.declared.IndexRow.{IndexRow}
+use Rattle.parts.specs.declared.time.Epoch.{Epoch}
+use Rattle.rows.specs.Rows.{stride, rowsOf}
+use Rattle.query.specs.Query.{chosen, rowRules}
+use Rattle.answer.specs.declared.Answer.{Answer}
+use Rattle.answer.specs.Answer.{answered}
+use Rattle.answer.specs.Rules.{wholeRows}
+
+abbrev pub epoch : ℕ → Epoch
+epoch t = record { 0 = t }
+
+-- all of the lent rows
+abbrev pub hostRows : List ℕ → List IndexRow
+hostRows rows = rowsOf (length rows / stride) rows
+
+abbrev pub hostChosen : (rows : List ℕ) (t1 t2 : ℕ) → List ℕ
+hostChosen rows t1 t2 = chosen (epoch t1) (epoch t2) 0 (hostRows rows)
+
+-- "numbers: u32 each"
+unfoldable pub numbersBytes : List ℕ → List ℕ
+numbersBytes [] = []
+numbersBytes (n ∷ ns) = le 4 n ++ numbersBytes ns
+
+-- 13, then the length of the rows, their number, their order, and last 12 in bytes
+unfoldable pub hostQueryRules : (rows : List ℕ) (t1 t2 numbers : ℕ) → List Rule
+hostQueryRules rows t1 t2 numbers =
+    atMost 13 t1 t1 t2
+    ∷ wholeRows (length rows)
+    ∷ (rowRules (hostRows rows)
+    ++ (atLeast 12 (4 * length (hostChosen rows t1 t2)) numbers (4 * length (hostChosen rows t1 t2)) ∷ []))
+
+unfoldable pub hostQueryOf : (rows : List ℕ) (t1 t2 numbers : ℕ) → Answer
+hostQueryOf rows t1 t2 numbers = answered (settle (firstBroken (hostQueryRules rows t1 t2 numbers)) (length (hostChosen rows t1 t2)))
+
+-- the lent list of numbers afterwards
+unfoldable pub hostQueryOut : (rows : List ℕ) (t1 t2 : ℕ) (numbers : List ℕ) → List ℕ
+hostQueryOut rows t1 t2 numbers =
+    ifSound (firstBroken (hostQueryRules rows t1 t2 (length numbers))) (splice numbers 0 (numbersBytes (hostChosen rows t1 t2))) numbers

@@ -1,0 +1,3 @@
+-- The definitions of recovery and repair at the C edge. Assumes nothing.
+pub mod Recover
+pub mod Repair

@@ -1,0 +1,103 @@
+// Recovery and repair of a file for programs in C, on numbers and lent bytes. A length comes behind each pointer (include/hplog.h).
+ghost use mathlib.Core.Path.{_≡_};
+ghost use mathlib.Core.Bool.{false};
+ghost use mathlib.Core.List.{[], _∷_, _++_};
+ghost use lib.ListN.{length};
+ghost use Rattle.verdict.specs.Rules.{flag, firstBroken, settle};
+ghost use Rattle.verdict.specs.Answer.{verdictOf};
+ghost use Rattle.wire.specs.Wire.{splice};
+ghost use Rattle.recovery.specs.Recovery.{reportOf, callRules};
+ghost use Rattle.repair.specs.Repair.{repairOut};
+ghost use Rattle.answer.specs.Answer.{answered};
+ghost use Rattle.host_recovery.specs.Recover.{stopNumber, stopPlace, flagOf, reportBytes, hostRecoverOf, hostRecoverRows, hostRecoverReport};
+ghost use Rattle.host_recovery.specs.Repair.{hostRepairOf};
+use answer::Answer;
+use recovery::Recovered;
+use recovery::Report;
+use repair::Repaired;
+use verdict::Checked;
+use verdict::Refusal;
+
+const REPORT: usize = 32;
+
+// The number and the place of what stopped a scan, both 0 for a clean end.
+fn stop_of(stop: Checked) -> Refusal
+    ensures { λ r. ⌜ (r .number ≡ stopNumber (verdictOf stop)) × (r .place ≡ stopPlace (verdictOf stop)) ⌝ }
+{
+    match stop {
+        Checked::Sound => Refusal {
+            number: 0,
+            place: 0,
+        },
+        Checked::Broken(w) => w,
+    }
+}
+
+fn flag_of(whole: bool) -> u64
+    ensures { λ r. ⌜ r ≡ flagOf whole ⌝ }
+{
+    if whole {
+        return 1;
+    }
+    0
+}
+
+fn put_report(out: &mut [u8], report: Report)
+    ensures { λ _. ⌜ now (out .exit) ≡ splice (now (out .entry)) 0 (reportBytes (report .end) (verdictOf (report .stop)) (report .whole)) ⌝ }
+{
+    let stop = report.stop;
+    let w = stop_of(stop);
+    wire::put_u64(out, 0, report.end);
+    wire::put_u64(out, 8, w.number as u64);
+    wire::put_u64(out, 16, w.place);
+    wire::put_u64(out, 24, flag_of(report.whole));
+}
+
+// What recovery answers where the report has no room: what is wrong with the header and with the room of the rows comes first.
+fn recover_short(log: &[u8], rows: usize) -> Answer
+    ensures { λ r. ⌜ r ≡ answered (settle (firstBroken (callRules (now (log .entry)) rows ++ (flag 12 32 false ∷ []))) (length (reportOf (now (log .entry)) .rows))) ⌝ }
+{
+    let r = recovery::survey(log);
+    match r {
+        Recovered::Refused(w) => answer::refused(w),
+        Recovered::Found(report) => {
+            let needed = report.blocks as u64 * rows::STRIDE as u64;
+            if (rows as u64) < needed {
+                return answer::refuse(12, needed);
+            }
+            answer::refuse(12, REPORT as u64)
+        }
+    }
+}
+
+#[no_mangle]
+pub extern "C" fn hplog_recover(log: &[u8], rows: &mut [u8], report: &mut [u8]) -> Answer
+    ensures { λ r. ⌜ (r ≡ hostRecoverOf (now (log .entry)) (length (now (rows .entry))) (length (now (report .entry)))) × (now (rows .exit) ≡ hostRecoverRows (now (log .entry)) (now (rows .entry)) (length (now (report .entry)))) × (now (report .exit) ≡ hostRecoverReport (now (log .entry)) (length (now (rows .entry))) (now (report .entry))) ⌝ }
+{
+    let n = rows.len();
+    if n % rows::STRIDE != 0 {
+        return answer::refuse(6, n as u64);
+    }
+    if report.len() < REPORT {
+        return recover_short(log, n);
+    }
+    let r = recovery::recover(log, rows);
+    match r {
+        Recovered::Refused(w) => answer::refused(w),
+        Recovered::Found(found) => {
+            put_report(report, found);
+            answer::accepted(found.blocks as u64)
+        }
+    }
+}
+
+#[no_mangle]
+pub extern "C" fn hplog_repair(log: &[u8], dictionary: &[u8], out: &mut [u8]) -> Answer
+    ensures { λ r. ⌜ (r ≡ hostRepairOf (now (log .entry)) (now (dictionary .entry)) (length (now (out .entry)))) × (now (out .exit) ≡ repairOut (now (log .entry)) (now (dictionary .entry)) (now (out .entry))) ⌝ }
+{
+    let r = repair::repair(log, dictionary, out);
+    match r {
+        Repaired::Refused(w) => answer::refused(w),
+        Repaired::Done(k) => answer::accepted(k.length),
+    }
+}
