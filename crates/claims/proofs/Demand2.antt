@@ -18,7 +18,8 @@ use Rattle.entries.specs.Model.{Entry}
 use Rattle.entries.specs.Reading.{entriesOf}
 use Rattle.entries.proofs.RoundTrip as trips
 use Rattle.names.specs.Dictionary.{dictionaryOf}
-use Rattle.reader.specs.Open.{openOut, rowIn, dictionaryIn}
+use Rattle.reader.specs.Open.{openOut}
+use Rattle.access.specs.Access.{rowIn, dictionaryIn}
 use Rattle.writer.specs.State.{begunWriter}
 use Rattle.writer.specs.Block.{Adding, readBy, blockFor}
 use Rattle.writer.specs.Close.{closeRules, closeOf}

@@ -30,8 +30,10 @@ use Rattle.layout.proofs.Back.{dictionary-size, index-mark, index-count}
 use Rattle.frame.specs.declared.Frame.{Frame}
 use Rattle.frame.specs.Frame.{sizeAt, dictionaryRules, frameOf, placeRules, lengthRules, indexRules, footerRules, frameRules, indexRows}
 use Rattle.frame.proofs.Rules.{dictionary-sound, places-sound, length-agrees, index-sound, footer-sound}
-use Rattle.reader.specs.Open.{rowRules, blocksRules, rowsIn, openRules, roomRules, callRules, openOf, openOut, rowIn, storedOf, dictionaryIn}
-use Rattle.reader.proofs.Rules.{row-sound, after-sound, room-there, row-there}
+use Rattle.reader.specs.Open.{rowRules, blocksRules, rowsIn, openRules, roomRules, callRules, openOf, openOut}
+use Rattle.reader.proofs.Rules.{row-sound, after-sound, room-there}
+use Rattle.access.specs.Access.{rowIn, storedOf, dictionaryIn}
+use Rattle.access.proofs.Rules.{row-there}
 use Rattle.claims.specs.Blocks.{Good, Valid, lastEnd}
 use Rattle.claims.proofs.Blocks.{first-block, rows-fit}
 use Rattle.claims.proofs.Scans as scans

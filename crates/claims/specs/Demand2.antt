@@ -18,7 +18,8 @@ use Rattle.entries.specs.Shortest.{OnlyShortest}
 use Rattle.entries.specs.Packing.{packEntry, pack, GoodEntry, Good}
 use Rattle.names.specs.Dictionary.{dictionaryOf}
 use Rattle.frame.specs.declared.Frame.{Frame}
-use Rattle.reader.specs.Open.{openOf, openOut, rowIn, storedOf, dictionaryIn}
+use Rattle.reader.specs.Open.{openOf, openOut}
+use Rattle.access.specs.Access.{rowIn, storedOf, dictionaryIn}
 use Rattle.writer.specs.Block.{Adding, readBy, blockFor}
 use Rattle.claims.specs.Calls.{Call, AllTyped, newWriting, addings, Closing, fileOf}
 

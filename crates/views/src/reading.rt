@@ -1,8 +1,8 @@
 // A file, opened and recovered, whole and cut at each byte; its parts.
 use crate::print;
+use access::Located;
 use parts::Epoch;
 use parts::IndexRow;
-use reader::Located;
 use reader::Opened;
 use recovery::Recovered;
 
@@ -67,9 +67,9 @@ pub fn stored(f: &[u8], table: &mut [u8], i: u64) {
     match o {
         Opened::Refused(r) => print::refusal_line(r),
         Opened::Log(log) => {
-            let l = reader::locate(&*table, log.blocks, i);
+            let l = access::locate(&*table, log.blocks, i);
             match l {
-                Located::Row(row) => print::bytes_line(reader::stored(f, row)),
+                Located::Row(row) => print::bytes_line(access::stored(f, row)),
                 Located::Refused(r) => print::refusal_line(r),
             }
         }
@@ -84,13 +84,13 @@ pub fn stored_at(f: &[u8], offset: u64, size: u32) {
         offset,
         stored: size,
     };
-    print::bytes_line(reader::stored(f, row));
+    print::bytes_line(access::stored(f, row));
 }
 
 pub fn dictionary(f: &[u8], table: &mut [u8]) {
     let o = reader::open(f, table);
     match o {
         Opened::Refused(r) => print::refusal_line(r),
-        Opened::Log(log) => print::bytes_line(reader::dictionary(f, log)),
+        Opened::Log(log) => print::bytes_line(access::dictionary(f, log)),
     }
 }
