@@ -4,8 +4,8 @@ use mathlib.Core.Path.{_≡_}
 use Prim.Native.Nat.{ℕ}
 use Rattle.verdict.specs.Rules.{given, onGiven}
 use Rattle.contents.specs.Contents.{contentsOf}
-use Rattle.lister.specs.declared.Token.{Token}
-use Rattle.lister.specs.Tokens.{joined}
+use Rattle.tokens.specs.declared.Token.{Token}
+use Rattle.tokens.specs.Tokens.{joined}
 use Rattle.lister.specs.Listing.{tokensFrom}
 use Rattle.lister.specs.Steps.{Rendered}
 use Rattle.input.specs.Printed.{printedOf}

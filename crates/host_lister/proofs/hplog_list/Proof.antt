@@ -3,7 +3,7 @@ use mathlib.Core.Path.{sym, ap, _∙_}
 use native.Mathlib.Omega.{arith}
 use Rattle.verdict.specs.Rules.{Outcome, given, onGiven}
 use Rattle.contents.specs.Contents.{Totals}
-use Rattle.lister.specs.Tokens.{joined}
+use Rattle.tokens.specs.Tokens.{joined}
 use Rattle.input.specs.Printed.{printedOf}
 use Rattle.input.proofs.Printing.{few-blocks, printed, refusal-printed}
 use Rattle.answer.specs.declared.Answer.{Answer}
