@@ -14,9 +14,10 @@ use Rattle.wire.specs.Wire.{Bytes, le, splice}
 use Rattle.wire.proofs.Splices.{splice-parts}
 use Rattle.parts.specs.declared.time.Epoch.{Epoch}
 use Rattle.varint.specs.Varint.{encode}
-use Rattle.entries.specs.declared.steps.Field.{Field}
-use Rattle.entries.specs.Model.{Entry, bytesOf}
-use Rattle.entries.specs.Answers.{valIn}
+use Rattle.cursor.specs.declared.Field.{Field}
+use Rattle.cursor.specs.Model.{bytesOf}
+use Rattle.cursor.specs.Answers.{valIn}
+use Rattle.entries.specs.Model.{Entry}
 use Rattle.entries.specs.Packing.{packField, packFields}
 use Rattle.entries.specs.Reading.{entriesOf, lastTime}
 use Rattle.entries.proofs.Accepted.{some-read, last-appended}

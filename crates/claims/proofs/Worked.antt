@@ -10,9 +10,9 @@ use Rattle.parts.specs.Time.{sinceOf, withinSpan, belongsTo}
 use Rattle.rows.specs.Rows.{tableBytes}
 use Rattle.layout.specs.Layout.{headOf, blockBytes}
 use Rattle.blocks.specs.Blocks.{storedAt, endAt, headRules, sumRule, blockRules, rowAt, scanFrom, scanOf}
-use Rattle.entries.specs.Model.{rightLength, rightBytes}
-use Rattle.entries.specs.Reading.{deltaRules, readDelta, idIn, kindIn, lengthIn, bytesIn, sizeIn, fieldRules}
-use Rattle.entries.specs.Answers.{asDelta, deltaAt, asField, fieldAt, valueAt}
+use Rattle.cursor.specs.Model.{rightLength, rightBytes}
+use Rattle.cursor.specs.Reading.{deltaRules, readDelta, idIn, kindIn, lengthIn, bytesIn, sizeIn, fieldRules}
+use Rattle.cursor.specs.Answers.{asDelta, deltaAt, asField, fieldAt, valueAt}
 use Rattle.query.specs.Query.{listed, chosen, orderRules, queryRules, queryOf, queryOut}
 use Rattle.label.specs.Label.{printable, printRules, labelRules, labelOf, labelBytes, labelOut}
 use Rattle.frame.specs.Frame.{dictionaryRules, wholeDictionary}

@@ -11,10 +11,10 @@ use Rattle.parts.specs.declared.time.Epoch.{Epoch}
 use Rattle.parts.specs.Parts.{emptyHeader, headerBytes}
 use Rattle.parts.specs.Time.{belongsTo}
 use Rattle.layout.specs.Layout.{Block, blockBytes}
-use Rattle.entries.specs.declared.values.Value.the-variants.{Whole}
-use Rattle.entries.specs.declared.steps.DeltaStep.the-variants as delta
-use Rattle.entries.specs.declared.steps.FieldStep.the-variants as field
-use Rattle.entries.specs.Answers.{refusal, deltaAt, fieldAt}
+use Rattle.cursor.specs.declared.values.Value.the-variants.{Whole}
+use Rattle.cursor.specs.declared.DeltaStep.the-variants as delta
+use Rattle.cursor.specs.declared.FieldStep.the-variants as field
+use Rattle.cursor.specs.Answers.{refusal, deltaAt, fieldAt}
 use Rattle.query.specs.Query.{queryOf, queryOut}
 use Rattle.label.specs.Label.{labelOf, labelOut}
 use Rattle.recovery.specs.Recovery.{recoverOf}

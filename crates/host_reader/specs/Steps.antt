@@ -3,16 +3,16 @@ use Prim.Native.Nat.{ℕ}
 use mir.Val.{ofZ}
 use mir.Syntax.{w64}
 use Rattle.verdict.specs.declared.Refusal.{Refusal}
-use Rattle.entries.specs.Model.{bitOf}
-use Rattle.entries.specs.declared.values.Value.{Value}
-use Rattle.entries.specs.declared.values.Value.the-variants.{Text, Whole, Real, Truth, Null, Json}
-use Rattle.entries.specs.declared.steps.Cursor.{Cursor}
-use Rattle.entries.specs.declared.steps.DeltaStep.{DeltaStep}
-use Rattle.entries.specs.declared.steps.DeltaStep.the-variants as delta
-use Rattle.entries.specs.declared.steps.CountStep.{CountStep}
-use Rattle.entries.specs.declared.steps.CountStep.the-variants as count
-use Rattle.entries.specs.declared.steps.FieldStep.{FieldStep}
-use Rattle.entries.specs.declared.steps.FieldStep.the-variants as field
+use Rattle.cursor.specs.Model.{bitOf}
+use Rattle.cursor.specs.declared.values.Value.{Value}
+use Rattle.cursor.specs.declared.values.Value.the-variants.{Text, Whole, Real, Truth, Null, Json}
+use Rattle.cursor.specs.declared.Cursor.{Cursor}
+use Rattle.cursor.specs.declared.DeltaStep.{DeltaStep}
+use Rattle.cursor.specs.declared.DeltaStep.the-variants as delta
+use Rattle.cursor.specs.declared.CountStep.{CountStep}
+use Rattle.cursor.specs.declared.CountStep.the-variants as count
+use Rattle.cursor.specs.declared.FieldStep.{FieldStep}
+use Rattle.cursor.specs.declared.FieldStep.the-variants as field
 use Rattle.packing.specs.Entry.{kindCode}
 use Rattle.host_reader.specs.declared.Step.{Step}
 use Rattle.host_reader.specs.declared.FieldAnswer.{FieldAnswer}

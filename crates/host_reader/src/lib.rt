@@ -1,16 +1,16 @@
 // The calls on plain dictionaries and plain blocks for programs in C (include/hplog.h).
 ghost use mathlib.Core.Path.{_≡_};
-ghost use Rattle.entries.specs.Answers.{deltaAt, countAt, fieldAt};
-ghost use Rattle.entries.specs.declared.steps.FieldStep.the-variants as field;
+ghost use Rattle.cursor.specs.Answers.{deltaAt, countAt, fieldAt};
+ghost use Rattle.cursor.specs.declared.FieldStep.the-variants as field;
 ghost use Rattle.host_reader.specs.Names.{hostNamesOf, hostNameOf};
 ghost use Rattle.host_reader.specs.Steps.{stepped, stopped, deltaAnswer, countAnswer, readField, fieldAnswer};
 use answer::Answer;
-use entries::CountStep;
-use entries::Cursor;
-use entries::DeltaStep;
-use entries::Field;
-use entries::FieldStep;
-use entries::Value;
+use cursor::CountStep;
+use cursor::Cursor;
+use cursor::DeltaStep;
+use cursor::Field;
+use cursor::FieldStep;
+use cursor::Value;
 use lookup::Located;
 use names::Counted;
 use verdict::Refusal;

@@ -1,9 +1,9 @@
 // The writer's calls, with the bytes that are lent to it, and the file that its stores are put in.
 use crate::answers;
-use entries::Cursor;
-use entries::Field;
-use entries::FieldStep;
-use entries::Value;
+use cursor::Cursor;
+use cursor::Field;
+use cursor::FieldStep;
+use cursor::Value;
 use parts::Epoch;
 use repair::Repaired;
 use views::print;
