@@ -1,14 +1,16 @@
 -- Laws of decimal digits. Assumes nothing.
 use mathlib.Core.Path.{_≡_, refl, sym, ap, _∙_}
-use mathlib.Core.List.{List, [], _∷_, _++_, append-assoc, append-nil}
+use mathlib.Core.List.{List, [], _∷_, _++_, append-assoc}
 use Prim.Native.Nat.{ℕ, zero, suc, _+_, _-_, _/_, _%_, _^_, _≤_, _<_}
-use native.Mathlib.Nat.{pow-suc, pow-zero, not-suc-le-zero}
+use native.Mathlib.Nat.{pow-suc, pow-zero, suc-add}
 use native.Mathlib.Omega.{arith}
 use native.Mathlib.Decide.{decLt}
-use lib.ListN.{length, take, drop, set, length-drop, length-append, length-set}
-use lib.Seq.{take-length, drop-length}
+use lib.ListN.{length, set, length-append}
 use borrow.Author.Tests.{lt-ltb, le-ltb}
+use Rattle.wire.specs.Wire.{splice}
+use Rattle.wire.proofs.Splices.{splice-nil, splice-set, splice-cons, length-splice}
 use Rattle.digits.specs.Digits.{digit, decimalIn, decimalOf}
+use Rattle.digits.specs.Inner.{pairOf}
 
 -- with more digits allowed than a number has, it is the same
 decimal-more : (k n : ℕ) → n < 10 ^ suc k → decimalIn (suc k) n ≡ decimalIn (suc (suc k)) n
@@ -34,105 +36,6 @@ pub decimal-step : (n : ℕ) → 10 ≤ n → n < 10 ^ 20 → decimalOf n ≡ de
 unfolding decimalOf
 decimal-step n h l =
     decimal-first 19 n h ∙ ap (λ (d : List ℕ). d ++ (digit (n % 10) ∷ [])) (decimal-more 18 (n / 10) (omega (arith, pow-suc 10 19)))
-
--- what stands from a place on, once an element is stored there
-drop-set : (l : List ℕ) (k v : ℕ) → k < length l → drop k (set l k v) ≡ v ∷ drop (suc k) l
-drop-set [] k v h = absurd (not-suc-le-zero h)
-drop-set (x ∷ l) zero v h = refl
-drop-set (x ∷ l) (suc k) v h = drop-set l k v (omega arith)
-
--- ---- the digits at the end of a buffer
-
-length-from : (l : List ℕ) (i n : ℕ) → length l ≡ 20 → drop i l ≡ decimalOf n → 20 - i ≡ length (decimalOf n)
-length-from l i n e d = ap (λ (k : ℕ). k - i) (sym e) ∙ sym (length-drop i l) ∙ ap length d
-
--- all of the digits, as a part of the buffer
-pub digits-part : (l : List ℕ) (i n : ℕ) → length l ≡ 20 → drop i l ≡ decimalOf n → take (20 - i) (drop i l) ≡ decimalOf n
-digits-part l i n e d = ap (λ (k : ℕ). take k (drop i l)) (length-from l i n e d ∙ ap length (sym d)) ∙ take-length (drop i l) ∙ d
-
--- i of its bytes are free, and x is left of n
-pub record Filling (n : ℕ) (l : List ℕ) (i x : ℕ) : Type 0 where
-  pub some : 1 ≤ i
-  pub room : i ≤ 20
-  pub size : length l ≡ 20
-  pub fits : x < 10 ^ 20
-  pub small : x < 10 ^ i
-  pub rest : decimalOf x ++ drop i l ≡ decimalOf n
-
-pub filling-all : (n : ℕ) (l : List ℕ) → length l ≡ 20 → n < 10 ^ 20 → Filling n l 20 n
-filling-all n l e h =
-    record {
-      some = omega arith;
-      room = omega arith;
-      size = e;
-      fits = h;
-      small = h;
-      rest = ap (λ (t : List ℕ). decimalOf n ++ t) (ap (λ (k : ℕ). drop k l) (sym e) ∙ drop-length l) ∙ append-nil (decimalOf n);
-    }
-
-module _ (n : ℕ) (l : List ℕ) (i x : ℕ) (v : Filling n l i x) where
-  -- a digit that isn't the last
-  module _ (h : 10 ≤ x) where
-    pub two-left : 2 ≤ i
-    two-left = go i (v .some) (v .small)
-      where
-        go : (k : ℕ) → 1 ≤ k → x < 10 ^ k → 2 ≤ k
-        go zero a b = absurd (not-suc-le-zero a)
-        go (suc zero) a b = absurd (omega (arith, b, pow-suc 10 0, pow-zero 10))
-        go (suc (suc k)) a b = omega arith
-
-    fewer : x / 10 < 10 ^ (i - 1)
-    fewer =
-        let k : i ≡ suc (i - 1) = omega (arith, v .some) in
-        let s : x < 10 ^ suc (i - 1) = rw k at (v .small) in
-        omega (arith, s, pow-suc 10 (i - 1))
-
-    pub filling-next : (d : ℕ) → d ≡ 0x30 + x % 10 → Filling n (set l (i - 1) d) (i - 1) (x / 10)
-    unfolding digit
-    filling-next d e =
-        let k : suc (i - 1) ≡ i = omega (arith, v .some) in
-        record {
-          some = omega (arith, two-left);
-          room = omega (arith, v .room);
-          size = length-set l (i - 1) d ∙ v .size;
-          fits = omega (arith, v .fits);
-          small = fewer;
-          rest =
-              ap (λ (t : List ℕ). decimalOf (x / 10) ++ t)
-              (drop-set l (i - 1) d (omega (arith, v .some, v .room, v .size)) ∙ ap (λ (t : ℕ). d ∷ drop t l) k ∙ ap (λ (t : ℕ). t ∷ drop i l) e)
-              ∙ sym (append-assoc (decimalOf (x / 10)) ((0x30 + x % 10) ∷ []) (drop i l)) ∙ ap (λ (t : List ℕ). t ++ drop i l) (sym (decimal-step x h (v .fits)))
-              ∙ v .rest;
-        }
-
-  pub filling-last : (d : ℕ) → x < 10 → d ≡ 0x30 + x → drop (i - 1) (set l (i - 1) d) ≡ decimalOf n
-  unfolding digit
-  filling-last d h e =
-      let k : suc (i - 1) ≡ i = omega (arith, v .some) in
-      drop-set l (i - 1) d (omega (arith, v .some, v .room, v .size)) ∙ ap (λ (t : ℕ). d ∷ drop t l) k ∙ ap (λ (t : ℕ). t ∷ drop i l) e
-      ∙ ap (λ (t : List ℕ). t ++ drop i l) (sym (decimal-small x h)) ∙ v .rest
-
--- two digits
-module _ (n : ℕ) (l : List ℕ) (i x : ℕ) (v : Filling n l i x) where
-  pub three-left : 100 ≤ x → 3 ≤ i
-  three-left h =
-      let w = filling-next n l i x v (omega arith) (0x30 + x % 10) refl in
-      let t = two-left n (set l (i - 1) (0x30 + x % 10)) (i - 1) (x / 10) w (omega arith) in
-      omega arith
-
-  less-two : i - 1 - 1 ≡ i - 2
-  less-two = omega arith
-
-  pub filling-two : (d e : ℕ) → 100 ≤ x → d ≡ 0x30 + x % 10 → e ≡ 0x30 + x / 10 % 10 → Filling n (set (set l (i - 1) d) (i - 2) e) (i - 2) (x / 100)
-  filling-two d e h p q =
-      let w = filling-next n l i x v (omega arith) d p in
-      let u = filling-next n (set l (i - 1) d) (i - 1) (x / 10) w (omega arith) e q in
-      let g : x / 10 / 10 ≡ x / 100 = omega arith in
-      rw (less-two, g) at u
-
-  pub filling-last-two : (d e : ℕ) → 10 ≤ x → x < 100 → d ≡ 0x30 + x % 10 → e ≡ 0x30 + x / 10 → drop (i - 2) (set (set l (i - 1) d) (i - 2) e) ≡ decimalOf n
-  filling-last-two d e h g p q =
-      let w = filling-next n l i x v h d p in
-      rw less-two at (filling-last n (set l (i - 1) d) (i - 1) (x / 10) w e (omega arith) q)
 
 -- ---- how many digits there are
 
@@ -171,3 +74,103 @@ decimal-room (suc k) n =
 pub decimal-short : (n : ℕ) → length (decimalOf n) ≤ 20
 unfolding decimalOf
 decimal-short n = decimal-room 20 n
+
+-- one at least
+decimal-many : (k n : ℕ) → 1 ≤ length (decimalIn (suc k) n)
+unfolding decimalIn
+decimal-many k n =
+    elim (decLt n 10) [
+      | yes l ↦ rw (lt-ltb n 10 l) (omega arith)
+      | no l ↦ rw (le-ltb n 10 (omega arith), length-append) (omega arith)
+    ]
+
+pub decimal-some : (n : ℕ) → 1 ≤ length (decimalOf n)
+unfolding decimalOf
+decimal-some n = decimal-many 19 n
+
+-- what is laid right before what was laid
+splice-behind : (l xs ys : List ℕ) (at : ℕ) → splice (splice l (at + length xs) ys) at xs ≡ splice l at (xs ++ ys)
+unfolding splice
+splice-behind [] xs ys at = refl
+splice-behind (b ∷ l) [] ys zero = splice-nil (splice (b ∷ l) 0 ys) 0
+splice-behind (b ∷ l) (x ∷ xs) ys zero =
+    let e : 0 + suc (length xs) ≡ suc (0 + length xs) = omega arith in
+    rw e (ap (λ (m : List ℕ). x ∷ m) (splice-behind l xs ys 0))
+splice-behind (b ∷ l) xs ys (suc at) = rw suc-add (ap (λ (m : List ℕ). b ∷ m) (splice-behind l xs ys at))
+
+-- ---- two digits at a time
+
+pub two-stores : (l : List ℕ) (at a b : ℕ) → set (set l at a) (at + 1) b ≡ splice l at (a ∷ b ∷ [])
+two-stores l at a b = splice-set (set l at a) (at + 1) b ∙ splice-cons l at a (b ∷ [])
+
+pub length-pair : (v : ℕ) → length (pairOf v) ≡ 2
+unfolding pairOf
+length-pair v = refl
+
+pub decimal-pair : (n : ℕ) → 100 ≤ n → n < 10 ^ 20 → decimalOf n ≡ decimalOf (n / 100) ++ pairOf (n % 100)
+unfolding pairOf
+decimal-pair n h l =
+    let a : n / 10 / 10 ≡ n / 100 = omega arith in
+    let b : n / 10 % 10 ≡ n % 100 / 10 = omega arith in
+    let c : n % 10 ≡ n % 100 % 10 = omega arith in
+    decimal-step n (omega arith) l ∙ ap (λ (t : List ℕ). t ++ (digit (n % 10) ∷ [])) (decimal-step (n / 10) (omega arith) (omega (arith, l)))
+    ∙ append-assoc (decimalOf (n / 10 / 10)) (digit (n / 10 % 10) ∷ []) (digit (n % 10) ∷ [])
+    ∙ rw (a, b, c)
+
+pub short-two : (n : ℕ) → 10 ≤ n → n < 100 → pairOf n ≡ decimalOf n
+unfolding pairOf
+short-two n h l =
+    let e : n < 10 ^ 20 = omega arith in
+    sym (decimal-step n h e ∙ ap (λ (t : List ℕ). t ++ (digit (n % 10) ∷ [])) (decimal-small (n / 10) (omega arith)))
+
+pub short-three : (n : ℕ) → 100 ≤ n → n < 1000 → digit (n / 100) ∷ pairOf (n % 100) ≡ decimalOf n
+short-three n h l =
+    let e : n < 10 ^ 20 = omega arith in
+    sym (decimal-pair n h e ∙ ap (λ (t : List ℕ). t ++ pairOf (n % 100)) (decimal-small (n / 100) (omega arith)))
+
+pub short-four : (n : ℕ) → 1000 ≤ n → n < 10000 → pairOf (n / 100) ++ pairOf (n % 100) ≡ decimalOf n
+short-four n h l =
+    let e : n < 10 ^ 20 = omega arith in
+    sym (decimal-pair n (omega arith) e ∙ ap (λ (t : List ℕ). t ++ pairOf (n % 100)) (sym (short-two (n / 100) (omega arith) (omega arith))))
+
+-- ---- from the last digit on: x is left of n, and its digits end at i
+
+pub record Digits (n : ℕ) (out₀ : List ℕ) (at : ℕ) (out : List ℕ) (i x : ℕ) : Type 0 where
+  pub size : length out ≡ length out₀
+  pub room : i ≤ length out₀
+  pub ends : at + length (decimalOf x) ≡ i
+  pub fits : x < 10 ^ 20
+  pub rest : splice out at (decimalOf x) ≡ splice out₀ at (decimalOf n)
+
+pub digits-all : (n : ℕ) (out : List ℕ) (at end : ℕ) → at + length (decimalOf n) ≡ end → end ≤ length out → n < 10 ^ 20 → Digits n out at out end n
+digits-all n out at end e h l = record { size = refl; room = h; ends = e; fits = l; rest = refl }
+
+module _ (n : ℕ) (out₀ : List ℕ) (at : ℕ) (out : List ℕ) (i x : ℕ) (v : Digits n out₀ at out i x) where
+  pub digits-pair : (m : List ℕ) (p : ℕ) → 100 ≤ x → p ≡ x % 100 → m ≡ splice out (i - 2) (pairOf p) → Digits n out₀ at m (i - 2) (x / 100)
+  digits-pair m p h e g =
+      let d = decimalOf (x / 100) in
+      let q = pairOf (x % 100) in
+      let s = decimal-pair x h (v .fits) in
+      let k : i - 2 ≡ at + length d = omega (arith, v .ends, ap length s, length-append d q, length-pair (x % 100)) in
+      record {
+        size = ap length g ∙ length-splice out (i - 2) (pairOf p) ∙ v .size;
+        room = omega (arith, v .room);
+        ends = sym k;
+        fits = omega (arith, v .fits);
+        rest =
+            ap (λ (l : List ℕ). splice l at d) (g ∙ ap (λ (j : ℕ). splice out (i - 2) (pairOf j)) e ∙ ap (λ (j : ℕ). splice out j q) k)
+            ∙ splice-behind out d q at ∙ ap (splice out at) (sym s) ∙ v .rest;
+      }
+
+module _ (n : ℕ) (out₀ : List ℕ) (at : ℕ) (out : List ℕ) (i x : ℕ) (v : Digits n out₀ at out i x) (h : 10000 ≤ x) where
+  pub four-left : at + 5 ≤ i
+  four-left = omega (arith, v .ends, length-four x h (v .fits), decimal-some (x / 10000))
+
+  pub digits-four : (l m : List ℕ) (p q : ℕ) → p ≡ x % 10000 % 100 → q ≡ x % 10000 / 100 → l ≡ splice out (i - 2) (pairOf p) → m ≡ splice l (i - 4) (pairOf q)
+      → Digits n out₀ at m (i - 4) (x / 10000)
+  digits-four l m p q e g a b =
+      let w = digits-pair n out₀ at out i x v l p (omega arith) (omega (arith, e)) a in
+      let j : i - 4 ≡ i - 2 - 2 = omega arith in
+      let y : x / 100 / 100 ≡ x / 10000 = omega arith in
+      let u = digits-pair n out₀ at l (i - 2) (x / 100) w m q (omega arith) (omega (arith, g)) (b ∙ ap (λ (k : ℕ). splice l k (pairOf q)) j) in
+      rw (← j, y) at u

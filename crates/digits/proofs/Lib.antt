@@ -1,3 +1,4 @@
 pub mod Decimals
 pub mod Hex
 pub mod Signs
+pub mod Fitting

@@ -2,31 +2,10 @@
 ghost use mathlib.Core.Path.{_≡_};
 ghost use mathlib.Core.List.{[], _∷_};
 ghost use Prim.Native.Nat.{_+_, _≤_, _<_};
-ghost use lib.ListN.{length, drop};
+ghost use lib.ListN.{length};
 ghost use Rattle.wire.specs.Wire.{splice};
-ghost use Rattle.digits.specs.Digits.{decimalOf, magnitudeOf, signedOf, hexDigit, hexOf, shownInText, shownInName, byteOf, byteLen};
-
-// The digits of a number at the end of a buffer, two at a time, and where they begin.
-fn fill(digits: &mut [u8], n: u64) -> usize
-    requires { ⌜ length (now digits) ≡ 20 ⌝ }
-    ensures { λ r. ⌜ (r ≤ 20) × (drop r (now (digits .exit)) ≡ decimalOf n) ⌝ }
-{
-    let mut i: usize = 20;
-    let mut x = n;
-    while 100 <= x {
-        digits[i - 1] = 0x30 + (x % 10) as u8;
-        digits[i - 2] = 0x30 + (x / 10 % 10) as u8;
-        i -= 2;
-        x /= 100;
-    }
-    if x < 10 {
-        digits[i - 1] = 0x30 + x as u8;
-        return i - 1;
-    }
-    digits[i - 1] = 0x30 + (x % 10) as u8;
-    digits[i - 2] = 0x30 + (x / 10) as u8;
-    i - 2
-}
+ghost use Rattle.digits.specs.Digits.{decimalOf, magnitudeOf, signedOf, hexDigit, hexOf, shownInText, shownInName, byteOf, byteLen, Put};
+ghost use Rattle.digits.specs.Inner.{pairOf};
 
 // How many digits a number below ten thousand takes.
 fn short_len(x: u64) -> usize
@@ -58,12 +37,76 @@ pub fn decimal_len(n: u64) -> usize
     k + short_len(x)
 }
 
+// A number below a hundred as two digits.
+fn put_pair(out: &mut [u8], at: usize, v: u32)
+    requires { ⌜ (v < 100) × (at + 2 ≤ length (now out)) ⌝ }
+    ensures { λ _. ⌜ now (out .exit) ≡ splice (now (out .entry)) at (pairOf v) ⌝ }
+{
+    out[at] = 0x30 + (v / 10) as u8;
+    out[at + 1] = 0x30 + (v % 10) as u8;
+}
+
+// A number below ten thousand.
+fn put_short(out: &mut [u8], at: usize, n: u32)
+    requires { ⌜ (n < 10000) × (at + length (decimalOf n) ≤ length (now out)) ⌝ }
+    ensures { λ _. ⌜ now (out .exit) ≡ splice (now (out .entry)) at (decimalOf n) ⌝ }
+{
+    if n < 10 {
+        out[at] = 0x30 + n as u8;
+        return;
+    }
+    if n < 100 {
+        put_pair(out, at, n);
+        return;
+    }
+    if n < 1000 {
+        out[at] = 0x30 + (n / 100) as u8;
+        put_pair(out, at + 1, n % 100);
+        return;
+    }
+    put_pair(out, at, n / 100);
+    put_pair(out, at + 2, n % 100);
+}
+
+// A number that ends where it is said to, from its last digit on, four at a time.
+fn put_digits(out: &mut [u8], at: usize, end: usize, n: u64)
+    requires { ⌜ (at + length (decimalOf n) ≡ end) × (end ≤ length (now out)) ⌝ }
+    ensures { λ _. ⌜ now (out .exit) ≡ splice (now (out .entry)) at (decimalOf n) ⌝ }
+{
+    let mut i = end;
+    let mut x = n;
+    while 10000 <= x {
+        let r = (x % 10000) as u32;
+        put_pair(out, i - 2, r % 100);
+        put_pair(out, i - 4, r / 100);
+        i -= 4;
+        x /= 10000;
+    }
+    put_short(out, at, x as u32);
+}
+
+// Puts a number if it fits wholly, and says how many bytes it took: 0 where it doesn't fit.
+pub fn put_fitting(out: &mut [u8], at: usize, n: u64) -> usize
+    ensures { λ r. ⌜ Put (decimalOf n) (now (out .entry)) at r (now (out .exit)) ⌝ }
+{
+    let k = decimal_len(n);
+    if out.len() < at {
+        return 0;
+    }
+    if out.len() - at < k {
+        return 0;
+    }
+    put_digits(out, at, at + k, n);
+    k
+}
+
+// As much of a number as there is room for.
 pub fn put_decimal(out: &mut [u8], at: usize, n: u64)
     ensures { λ _. ⌜ now (out .exit) ≡ splice (now (out .entry)) at (decimalOf n) ⌝ }
 {
     let mut digits = [0u8; 20];
-    let from = fill(&mut digits, n);
-    wire::copy_at(out, at, &digits[from..]);
+    let k = put_fitting(&mut digits, 0, n);
+    wire::copy_at(out, at, &digits[..k]);
 }
 
 // A number without its sign.
