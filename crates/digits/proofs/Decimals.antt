@@ -8,9 +8,9 @@ use native.Mathlib.Decide.{decLt}
 use lib.ListN.{length, set, length-append}
 use borrow.Author.Tests.{lt-ltb, le-ltb}
 use Rattle.wire.specs.Wire.{splice}
-use Rattle.wire.proofs.Splices.{splice-nil, splice-set, splice-cons, length-splice}
+use Rattle.wire.proofs.Splices.{splice-nil, splice-set, splice-cons, splice-join, length-splice}
 use Rattle.digits.specs.Digits.{digit, decimalIn, decimalOf}
-use Rattle.digits.specs.Inner.{pairOf}
+use Rattle.digits.specs.Inner.{pairOf, fourOf}
 
 -- with more digits allowed than a number has, it is the same
 decimal-more : (k n : ℕ) → n < 10 ^ suc k → decimalIn (suc k) n ≡ decimalIn (suc (suc k)) n
@@ -107,7 +107,13 @@ pub length-pair : (v : ℕ) → length (pairOf v) ≡ 2
 unfolding pairOf
 length-pair v = refl
 
-pub decimal-pair : (n : ℕ) → 100 ≤ n → n < 10 ^ 20 → decimalOf n ≡ decimalOf (n / 100) ++ pairOf (n % 100)
+pub four-stores : (l : List ℕ) (at a b c d : ℕ) → set (set (set (set l at a) (at + 1) b) (at + 2) c) (at + 3) d ≡ splice l at (a ∷ b ∷ c ∷ d ∷ [])
+four-stores l at a b c d =
+    let e : at + 3 ≡ at + 2 + 1 = omega arith in
+    ap (λ (k : ℕ). set (set (set (set l at a) (at + 1) b) (at + 2) c) k d) e ∙ two-stores (set (set l at a) (at + 1) b) (at + 2) c d
+    ∙ ap (λ (m : List ℕ). splice m (at + 2) (c ∷ d ∷ [])) (two-stores l at a b) ∙ splice-join l (a ∷ b ∷ []) (c ∷ d ∷ []) at
+
+decimal-pair : (n : ℕ) → 100 ≤ n → n < 10 ^ 20 → decimalOf n ≡ decimalOf (n / 100) ++ pairOf (n % 100)
 unfolding pairOf
 decimal-pair n h l =
     let a : n / 10 / 10 ≡ n / 100 = omega arith in
@@ -128,10 +134,25 @@ short-three n h l =
     let e : n < 10 ^ 20 = omega arith in
     sym (decimal-pair n h e ∙ ap (λ (t : List ℕ). t ++ pairOf (n % 100)) (decimal-small (n / 100) (omega arith)))
 
-pub short-four : (n : ℕ) → 1000 ≤ n → n < 10000 → pairOf (n / 100) ++ pairOf (n % 100) ≡ decimalOf n
+pub short-four : (n : ℕ) → 1000 ≤ n → n < 10000 → fourOf n ≡ decimalOf n
+unfolding fourOf
 short-four n h l =
     let e : n < 10 ^ 20 = omega arith in
     sym (decimal-pair n (omega arith) e ∙ ap (λ (t : List ℕ). t ++ pairOf (n % 100)) (sym (short-two (n / 100) (omega arith) (omega arith))))
+
+pub length-fours : (v : ℕ) → length (fourOf v) ≡ 4
+unfolding fourOf pairOf
+length-fours v = refl
+
+decimal-four : (n : ℕ) → 10000 ≤ n → n < 10 ^ 20 → decimalOf n ≡ decimalOf (n / 10000) ++ fourOf (n % 10000)
+unfolding fourOf
+decimal-four n h l =
+    let a : n / 100 / 100 ≡ n / 10000 = omega arith in
+    let b : n / 100 % 100 ≡ n % 10000 / 100 = omega arith in
+    let c : n % 100 ≡ n % 10000 % 100 = omega arith in
+    decimal-pair n (omega arith) l ∙ ap (λ (t : List ℕ). t ++ pairOf (n % 100)) (decimal-pair (n / 100) (omega arith) (omega (arith, l)))
+    ∙ append-assoc (decimalOf (n / 100 / 100)) (pairOf (n / 100 % 100)) (pairOf (n % 100))
+    ∙ rw (a, b, c)
 
 -- ---- from the last digit on: x is left of n, and its digits end at i
 
@@ -145,32 +166,20 @@ pub record Digits (n : ℕ) (out₀ : List ℕ) (at : ℕ) (out : List ℕ) (i x
 pub digits-all : (n : ℕ) (out : List ℕ) (at end : ℕ) → at + length (decimalOf n) ≡ end → end ≤ length out → n < 10 ^ 20 → Digits n out at out end n
 digits-all n out at end e h l = record { size = refl; room = h; ends = e; fits = l; rest = refl }
 
-module _ (n : ℕ) (out₀ : List ℕ) (at : ℕ) (out : List ℕ) (i x : ℕ) (v : Digits n out₀ at out i x) where
-  pub digits-pair : (m : List ℕ) (p : ℕ) → 100 ≤ x → p ≡ x % 100 → m ≡ splice out (i - 2) (pairOf p) → Digits n out₀ at m (i - 2) (x / 100)
-  digits-pair m p h e g =
-      let d = decimalOf (x / 100) in
-      let q = pairOf (x % 100) in
-      let s = decimal-pair x h (v .fits) in
-      let k : i - 2 ≡ at + length d = omega (arith, v .ends, ap length s, length-append d q, length-pair (x % 100)) in
-      record {
-        size = ap length g ∙ length-splice out (i - 2) (pairOf p) ∙ v .size;
-        room = omega (arith, v .room);
-        ends = sym k;
-        fits = omega (arith, v .fits);
-        rest =
-            ap (λ (l : List ℕ). splice l at d) (g ∙ ap (λ (j : ℕ). splice out (i - 2) (pairOf j)) e ∙ ap (λ (j : ℕ). splice out j q) k)
-            ∙ splice-behind out d q at ∙ ap (splice out at) (sym s) ∙ v .rest;
-      }
-
 module _ (n : ℕ) (out₀ : List ℕ) (at : ℕ) (out : List ℕ) (i x : ℕ) (v : Digits n out₀ at out i x) (h : 10000 ≤ x) where
   pub four-left : at + 5 ≤ i
   four-left = omega (arith, v .ends, length-four x h (v .fits), decimal-some (x / 10000))
 
-  pub digits-four : (l m : List ℕ) (p q : ℕ) → p ≡ x % 10000 % 100 → q ≡ x % 10000 / 100 → l ≡ splice out (i - 2) (pairOf p) → m ≡ splice l (i - 4) (pairOf q)
-      → Digits n out₀ at m (i - 4) (x / 10000)
-  digits-four l m p q e g a b =
-      let w = digits-pair n out₀ at out i x v l p (omega arith) (omega (arith, e)) a in
-      let j : i - 4 ≡ i - 2 - 2 = omega arith in
-      let y : x / 100 / 100 ≡ x / 10000 = omega arith in
-      let u = digits-pair n out₀ at l (i - 2) (x / 100) w m q (omega arith) (omega (arith, g)) (b ∙ ap (λ (k : ℕ). splice l k (pairOf q)) j) in
-      rw (← j, y) at u
+  pub digits-four : (m : List ℕ) → m ≡ splice out (i - 4) (fourOf (x % 10000)) → Digits n out₀ at m (i - 4) (x / 10000)
+  digits-four m g =
+      let d = decimalOf (x / 10000) in
+      let q = fourOf (x % 10000) in
+      let s = decimal-four x h (v .fits) in
+      let k : i - 4 ≡ at + length d = omega (arith, v .ends, ap length s, length-append d q, length-fours (x % 10000)) in
+      record {
+        size = ap length g ∙ length-splice out (i - 4) q ∙ v .size;
+        room = omega (arith, v .room);
+        ends = sym k;
+        fits = omega (arith, v .fits);
+        rest = ap (λ (l : List ℕ). splice l at d) (g ∙ ap (λ (j : ℕ). splice out j q) k) ∙ splice-behind out d q at ∙ ap (splice out at) (sym s) ∙ v .rest;
+      }

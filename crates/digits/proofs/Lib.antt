@@ -2,3 +2,4 @@ pub mod Decimals
 pub mod Hex
 pub mod Signs
 pub mod Fitting
+pub mod Fours

@@ -3,9 +3,9 @@ ghost use mathlib.Core.Path.{_≡_};
 ghost use mathlib.Core.List.{[], _∷_};
 ghost use Prim.Native.Nat.{_+_, _≤_, _<_};
 ghost use lib.ListN.{length};
-ghost use Rattle.wire.specs.Wire.{splice};
+ghost use Rattle.wire.specs.Wire.{le, splice};
 ghost use Rattle.digits.specs.Digits.{decimalOf, magnitudeOf, signedOf, hexDigit, hexOf, shownInText, shownInName, byteOf, byteLen, Put};
-ghost use Rattle.digits.specs.Inner.{pairOf};
+ghost use Rattle.digits.specs.Inner.{pairOf, fourOf};
 
 // How many digits a number below ten thousand takes.
 fn short_len(x: u64) -> usize
@@ -46,6 +46,28 @@ fn put_pair(out: &mut [u8], at: usize, v: u32)
     out[at + 1] = 0x30 + (v % 10) as u8;
 }
 
+// The four digits of a number below ten thousand, the first in the lowest byte: the hundreds beside the rest, and the tens of both at once.
+fn four_digits(r: u32) -> u32
+    requires { ⌜ r < 10000 ⌝ }
+    ensures { λ w. ⌜ le 4 w ≡ fourOf r ⌝ }
+{
+    let h = r / 100;
+    let p = h + (r % 100) * 0x1_0000;
+    let t = (p * 103 / 1024) & 0xF_000F;
+    0x3030_3030 + p * 0x100 - t * 2559
+}
+
+fn put_four(out: &mut [u8], at: usize, r: u32)
+    requires { ⌜ (r < 10000) × (at + 4 ≤ length (now out)) ⌝ }
+    ensures { λ _. ⌜ now (out .exit) ≡ splice (now (out .entry)) at (fourOf r) ⌝ }
+{
+    let w = four_digits(r);
+    out[at] = (w % 0x100) as u8;
+    out[at + 1] = (w / 0x100 % 0x100) as u8;
+    out[at + 2] = (w / 0x1_0000 % 0x100) as u8;
+    out[at + 3] = (w / 0x100_0000 % 0x100) as u8;
+}
+
 // A number below ten thousand.
 fn put_short(out: &mut [u8], at: usize, n: u32)
     requires { ⌜ (n < 10000) × (at + length (decimalOf n) ≤ length (now out)) ⌝ }
@@ -64,8 +86,7 @@ fn put_short(out: &mut [u8], at: usize, n: u32)
         put_pair(out, at + 1, n % 100);
         return;
     }
-    put_pair(out, at, n / 100);
-    put_pair(out, at + 2, n % 100);
+    put_four(out, at, n);
 }
 
 // A number that ends where it is said to, from its last digit on, four at a time.
@@ -76,9 +97,7 @@ fn put_digits(out: &mut [u8], at: usize, end: usize, n: u64)
     let mut i = end;
     let mut x = n;
     while 10000 <= x {
-        let r = (x % 10000) as u32;
-        put_pair(out, i - 2, r % 100);
-        put_pair(out, i - 4, r / 100);
+        put_four(out, i - 4, (x % 10000) as u32);
         i -= 4;
         x /= 10000;
     }
@@ -217,6 +236,12 @@ pub fn byte_len(shown: bool) -> usize
     if shown { 1 } else { 4 }
 }
 
+fn wide32(x: u8) -> u32
+    ensures { λ r. ⌜ (r ≡ x) × (r < 256) ⌝ }
+{
+    x as u32
+}
+
 pub fn put_byte(out: &mut [u8], at: usize, b: u8, shown: bool)
     ensures { λ _. ⌜ now (out .exit) ≡ splice (now (out .entry)) at (byteOf shown b) ⌝ }
 {
@@ -224,5 +249,7 @@ pub fn put_byte(out: &mut [u8], at: usize, b: u8, shown: bool)
         wire::copy_at(out, at, &[b]);
         return;
     }
-    wire::copy_at(out, at, &[0x5C, 0x78, hex_digit(b / 16), hex_digit(b % 16)]);
+    let high = wide32(hex_digit(b / 16));
+    let low = wide32(hex_digit(b % 16));
+    wire::put_u32(out, at, 0x785C + high * 0x1_0000 + low * 0x100_0000);
 }

@@ -15,41 +15,27 @@ abbrev μ-loop : tie.MeasureT-loop
 loop-holds : tie.Need-loop-holds Inv-loop μ-loop
 loop-holds c = digits-all _ _ _ _ (search needs) (search needs) (omega arith)
 
-sub-put-pair : tie.Need-sub-put-pair Inv-loop μ-loop
-sub-put-pair c = let t = c .before in let h = four-left _ _ _ _ _ _ (t .before .loop .inv) (t .loop-test .taken) in omega arith
+sub-put-four : tie.Need-sub-put-four Inv-loop μ-loop
+sub-put-four c = let t = c .before in let h = four-left _ _ _ _ _ _ (t .before .loop .inv) (t .loop-test .taken) in omega arith
 
-put-pair-requires : tie.Need-put-pair-requires Inv-loop μ-loop
-put-pair-requires c κs =
+put-four-requires : tie.Need-put-four-requires Inv-loop μ-loop
+put-four-requires c κs =
     let t = c .before in
-    let v = t .before .loop .inv in
-    let h = four-left _ _ _ _ _ _ v (t .loop-test .taken) in
-    (omega arith, omega (arith, v .size, v .room))
-
-sub-put-pair-2 : tie.Need-sub-put-pair-2 Inv-loop μ-loop
-sub-put-pair-2 c =
-    let t = c .before .before .before .before .before in
-    let h = four-left _ _ _ _ _ _ (t .before .loop .inv) (t .loop-test .taken) in
-    omega arith
-
-put-pair-requires-2 : tie.Need-put-pair-requires-2 Inv-loop μ-loop
-put-pair-requires-2 c κs =
-    let t = c .before .before .before .before .before in
     let v = t .before .loop .inv in
     let h = four-left _ _ _ _ _ _ v (t .loop-test .taken) in
     (omega arith, omega (arith, v .size, v .room))
 
 sub-i : tie.Need-sub-i Inv-loop μ-loop
 sub-i c =
-    let t = c .before .before .before .before .before .before .before .before in
+    let t = c .before .before .before .before in
     let h = four-left _ _ _ _ _ _ (t .before .loop .inv) (t .loop-test .taken) in
     omega arith
 
 loop-again : tie.Need-loop-again Inv-loop μ-loop
 loop-again c =
-    let q = c .before .before in
-    let p = q .before .before .before .before in
+    let p = c .before .before in
     let t = p .before .before in
-    digits-four _ _ _ _ _ _ (t .before .loop .inv) (t .loop-test .taken) _ _ _ _ (omega arith) (omega arith) (p .put-pair .ensures) (q .put-pair2 .ensures)
+    digits-four _ _ _ _ _ _ (t .before .loop .inv) (t .loop-test .taken) _ (p .put-four .ensures)
 
 put-short-requires : tie.Need-put-short-requires Inv-loop μ-loop
 put-short-requires c κs = let v = c .before .before .loop .inv in (omega arith, omega (arith, v .ends, v .room, v .size))
@@ -63,4 +49,4 @@ returns c = let p = c .before .before in p .put-short .ensures ∙ p .before .be
 pub put-digits-spec : {M : Type 1} → statement M
 put-digits-spec =
     tie.close
-    (tie.spec Inv-loop μ-loop loop-holds (λ c. search needs) sub-put-pair put-pair-requires sub-put-pair-2 put-pair-requires-2 sub-i (λ c. search needs) loop-again (λ c. search needs) put-short-requires same-length returns)
+    (tie.spec Inv-loop μ-loop loop-holds sub-put-four (λ c. search needs) put-four-requires sub-i (λ c. search needs) loop-again (λ c. search needs) put-short-requires same-length returns)

@@ -1,15 +1,14 @@
 -- `digits::put_short` meets its contract. Assumes nothing.
 use mathlib.Core.Path.{sym, ap, _∙_}
-use mathlib.Core.List.{List}
-use Prim.Native.Nat.{ℕ, _+_, _/_, _%_}
+use Prim.Native.Nat.{_+_, _/_, _%_}
 use native.Mathlib.Omega.{arith}
-use lib.ListN.{length, set, length-set, length-append}
+use lib.ListN.{length, length-set}
 use borrow.Author.Needs.{needs}
 use Rattle.wire.specs.Wire.{splice}
-use Rattle.wire.proofs.Splices.{splice-set, splice-cons, splice-join, length-splice}
-use Rattle.digits.specs.Digits.{digit, decimalOf}
+use Rattle.wire.proofs.Splices.{splice-set, splice-cons}
+use Rattle.digits.specs.Digits.{digit}
 use Rattle.digits.specs.Inner.{pairOf}
-use Rattle.digits.proofs.Decimals.{decimal-small, decimal-some, length-pair, short-two, short-three, short-four}
+use Rattle.digits.proofs.Decimals.{decimal-small, decimal-some, length-pair, length-fours, short-two, short-three, short-four}
 use Rattle.digits.proofs.put_short.Statement.{statement}
 use Rattle.digits.proofs.put_short.Tie as tie
 
@@ -56,30 +55,20 @@ returns-3 c =
     p .put-pair2 .ensures ∙ splice-cons (a .out .now) (a .at) (0x30 + a .n / 100) (pairOf (a .n % 100))
     ∙ ap (splice (a .out .now) (a .at)) (short-three (a .n) (t .before .if2 .left) (t .if3 .taken))
 
-put-pair-requires-3 : tie.Need-put-pair-requires-3
-put-pair-requires-3 c κs =
+put-four-requires : tie.Need-put-four-requires
+put-four-requires c κs =
     let a = c .before .before .before .before .before .args in
     let e = short-four (a .n) (omega arith) (omega arith) in
-    (omega arith, omega (arith, ap length e, length-append (pairOf (a .n / 100)) (pairOf (a .n % 100)), length-pair (a .n / 100), length-pair (a .n % 100)))
-
-put-pair-requires-4 : tie.Need-put-pair-requires-4
-put-pair-requires-4 c κs =
-    let a = c .before .before .before .before .before .before .before .before .before .args in
-    let e = short-four (a .n) (omega arith) (omega arith) in
-    (omega arith, omega (arith, ap length e, length-append (pairOf (a .n / 100)) (pairOf (a .n % 100)), length-pair (a .n / 100), length-pair (a .n % 100)))
+    (omega arith, omega (arith, ap length e, length-fours (a .n)))
 
 returns-4 : tie.Need-returns-4
 returns-4 c =
     let p = c .before .before in
-    let q = p .before .before .before .before in
-    let t = q .before .before in
+    let t = p .before .before in
     let a = t .before .before .before .before .args in
-    p .put-pair4 .ensures ∙ ap (λ (m : List ℕ). splice m (a .at + 2) (pairOf (a .n % 100))) (q .put-pair3 .ensures)
-    ∙ ap (λ (k : ℕ). splice (splice (a .out .now) (a .at) (pairOf (a .n / 100))) (a .at + k) (pairOf (a .n % 100))) (sym (length-pair (a .n / 100)))
-    ∙ splice-join (a .out .now) (pairOf (a .n / 100)) (pairOf (a .n % 100)) (a .at)
-    ∙ ap (splice (a .out .now) (a .at)) (short-four (a .n) (t .if3 .left) (omega arith))
+    p .put-four .ensures ∙ ap (splice (a .out .now) (a .at)) (short-four (a .n) (t .if3 .left) (omega arith))
 
 pub put-short-spec : {M : Type 1} → statement M
 put-short-spec =
     tie.close
-    (tie.spec (λ c. search needs) (λ c. search needs) slice-write-out (λ c. search needs) returns put-pair-requires (λ c. search needs) returns-2 (λ c. search needs) (λ c. search needs) slice-write-out-2 (λ c. search needs) put-pair-requires-2 same-length-3 returns-3 put-pair-requires-3 (λ c. search needs) put-pair-requires-4 (λ c. search needs) returns-4)
+    (tie.spec (λ c. search needs) (λ c. search needs) slice-write-out (λ c. search needs) returns put-pair-requires (λ c. search needs) returns-2 (λ c. search needs) (λ c. search needs) slice-write-out-2 (λ c. search needs) put-pair-requires-2 same-length-3 returns-3 put-four-requires (λ c. search needs) returns-4)
