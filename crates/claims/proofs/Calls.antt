@@ -25,7 +25,7 @@ use Rattle.writer.proofs.Closes.{close-good, close-fits}
 use Rattle.writer.specs.declared.state.Writer.{Writer}
 use Rattle.writer.specs.State.{begunWriter, begunRules}
 use Rattle.writer.specs.Begin.{firstBytes, beginRules, beginOf, beginOut}
-use Rattle.writer.specs.Name.{nameRules, heldAs, namingOf, withName, nameOf, nameOut}
+use Rattle.writer_names.specs.Name.{nameRules, heldAs, namingOf, withName, nameOf, nameOut}
 use Rattle.writer.specs.Entry.{entryRules, withEntry, entryOf}
 use Rattle.writer.specs.Block.{Adding, readBy, blockFor, takeRules, blockRules, withBlock, blockOf, rowsOut, blockOut}
 use Rattle.writer.specs.Close.{lastBytes, closeRules, closed, closeOf, closeOut}

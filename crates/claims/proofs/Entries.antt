@@ -35,8 +35,8 @@ use Rattle.lookup.specs.Lookup.{Found, numbered, missing}
 use Rattle.writer.specs.declared.state.Writer.{Writer}
 use Rattle.writer.specs.State.{begunWriter, isNew, isBegun, isOpen, begunRules}
 use Rattle.writer.specs.Begin.{beginRules, beginOf}
-use Rattle.writer.specs.Name.{heldAs, nameRules, withName, namingOf}
-use Rattle.writer.specs.Name as writer
+use Rattle.writer_names.specs.Name.{heldAs, nameRules, withName, namingOf}
+use Rattle.writer_names.specs.Name as writer
 use Rattle.writer.specs.Entry.{startFor, earliestFor, deltaFor, timeRules, entryRules, withEntry, entryOf, entryOut}
 use Rattle.writer.specs.Block.{Adding, readBy, blockFor, takeRules, roomRules, blockRules, withBlock, blockOf}
 use Rattle.writer.specs.Close.{closeRules, closed, closeOf}

@@ -16,7 +16,7 @@ use Rattle.utf8.specs.Utf8.{utf8Of}
 use Rattle.names.specs.Dictionary.{nameAt, nextAt, placeOf, nameOf, held, shapeRules, newRule, namesRules, dictionaryRules, dictionaryOf}
 use Rattle.names.proofs.Places.{next-is, place-first, name-is, name-part, held-not}
 use Rattle.names.proofs.Shapes.{text}
-use Rattle.writer.specs.Name.{nameBytes}
+use Rattle.writer_names.specs.Name.{nameBytes}
 use Rattle.claims.specs.Built.{namesBytes, plainNames}
 
 -- ---- one name, where it stands

@@ -24,14 +24,14 @@ use Rattle.writer.specs.declared.state.Turn.the-variants as turn
 use Rattle.writer.specs.declared.state.Writer.{Writer}
 use Rattle.writer.specs.State.{begunWriter, isNew, isBegun, begunRules}
 use Rattle.writer.specs.Begin.{Step, beginRules, beginOf}
-use Rattle.writer.specs.Name.{Naming, heldAs, newRules, unlessHeld, nameRules, withName, namingOf, nameBytes, appended, namesAfter, nameOut}
-use Rattle.writer.specs.Name as writer
+use Rattle.writer_names.specs.Name.{Naming, heldAs, newRules, unlessHeld, nameRules, withName, namingOf, nameBytes, appended, namesAfter, nameOut}
+use Rattle.writer_names.specs.Name as writer
 use Rattle.writer.specs.Entry.{entryRules, withEntry, entryOf}
 use Rattle.writer.specs.Block.{blockRules, withBlock, blockOf}
 use Rattle.writer.specs.Close.{lastBytes, endRules, lastRules, closeRules, closed, closeOf}
 use Rattle.writer.proofs.Turns.{turn-begun}
-use Rattle.writer.proofs.Names.{name-held}
-use Rattle.writer.proofs.Kept.{begin-bounded, name-bounded, entry-bounded}
+use Rattle.writer_names.proofs.Names.{name-held, name-bounded}
+use Rattle.writer.proofs.Kept.{begin-bounded, entry-bounded}
 use Rattle.writer.proofs.Blocks.{block-bounded}
 use Rattle.claims.specs.Calls.{Call, begin, name, entry, block, close, Writing, newWriting, ifGiven, next, last}
 use Rattle.claims.specs.Built.{among, heldAfter, heldBehind, namesHeld, namesBytes, plainNames, Closable, HoldsNames, NamesBuilt}

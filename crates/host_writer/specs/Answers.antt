@@ -3,7 +3,7 @@ use Prim.Native.Nat.{ℕ}
 use Rattle.verdict.specs.Rules.{Outcome, given, refused}
 use Rattle.writer.specs.declared.state.Writer.{Writer}
 use Rattle.writer.specs.Begin.{Step}
-use Rattle.writer.specs.Name.{Naming}
+use Rattle.writer_names.specs.Name.{Naming}
 use Rattle.answer.specs.Answer.{answered}
 use Rattle.host_writer.specs.declared.State.{State}
 use Rattle.host_writer.specs.declared.Written.{Written}

@@ -5,22 +5,23 @@ ghost use lib.ListN.{length};
 ghost use Rattle.packing.specs.Table.{recordsIn, fieldsOf};
 ghost use Rattle.writer.specs.State.{newWriter};
 ghost use Rattle.writer.specs.Begin.{beginOf, beginOut};
-ghost use Rattle.writer.specs.Name.{nameOf, nameOut};
 ghost use Rattle.writer.specs.Entry.{entryOf, entryOut};
 ghost use Rattle.writer.specs.Block.{adding, blockOf, rowsOut, blockOut};
 ghost use Rattle.writer.specs.Close.{closeOf, closeOut};
-ghost use Rattle.writer.specs.Answer.{storedOf, namedOf, enteredOf};
+ghost use Rattle.writer.specs.Answer.{storedOf, enteredOf};
+ghost use Rattle.writer_names.specs.Name.{nameOf, nameOut};
+ghost use Rattle.writer_names.specs.Answer.{namedOf};
 ghost use Rattle.host_writer.specs.State.{turnFor, numberOf, writerIn, stateOf};
 ghost use Rattle.host_writer.specs.Answers.{went, stayed, storing, naming, entering};
 use answer::Answer;
 use parts::Epoch;
 use verdict::Refusal;
 use writer::Entered;
-use writer::Named;
 use writer::Pending;
 use writer::Stored;
 use writer::Turn;
 use writer::Writer;
+use writer_names::Named;
 
 // A writer in numbers alone.
 #[repr(C)]
@@ -150,7 +151,7 @@ pub extern "C" fn hplog_add_name(state: State, dictionary: &mut [u8], name: &[u8
     ensures { λ r. ⌜ (r ≡ naming state (nameOf (writerIn state) (now (dictionary .entry)) (now (name .entry)))) × (now (dictionary .exit) ≡ nameOut (writerIn state) (now (dictionary .entry)) (now (name .entry))) ⌝ }
 {
     let w = writer_in(state);
-    let r = w.add_name(dictionary, name);
+    let r = writer_names::add_name(w, dictionary, name);
     match r {
         Named::Number(next, i) => behind(next, i as u64),
         Named::Refused(e) => unchanged(state, e),

@@ -2,11 +2,11 @@
 use repair::Repaired;
 use views::print;
 use writer::Entered;
-use writer::Named;
 use writer::Pending;
 use writer::Stored;
 use writer::Turn;
 use writer::Writer;
+use writer_names::Named;
 
 // How many bytes were stored, and the first 200 of them.
 fn stores(size: u64, out: &[u8]) {

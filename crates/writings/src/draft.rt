@@ -8,9 +8,9 @@ use parts::Epoch;
 use repair::Repaired;
 use views::print;
 use writer::Entered;
-use writer::Named;
 use writer::Stored;
 use writer::Writer;
+use writer_names::Named;
 
 // What is kept from line to line, beside the lent bytes: the writer, and the length of the file.
 pub struct Draft {
@@ -70,7 +70,7 @@ fn behind_name(s: Draft, r: Named) -> Draft {
 fn add_name(s: Draft, room: usize, name: &[u8], dictionary: &mut [u8]) -> Draft {
     let w = s.writer;
     let n = text::reach(&*dictionary, 0, room);
-    let r = w.add_name(&mut dictionary[..n], name);
+    let r = writer_names::add_name(w, &mut dictionary[..n], name);
     answers::named(r);
     behind_name(s, r)
 }
