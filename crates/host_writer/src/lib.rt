@@ -5,22 +5,23 @@ ghost use lib.ListN.{length};
 ghost use Rattle.packing.specs.Table.{recordsIn, fieldsOf};
 ghost use Rattle.writer.specs.State.{newWriter};
 ghost use Rattle.writer.specs.Begin.{beginOf, beginOut};
-ghost use Rattle.writer.specs.Entry.{entryOf, entryOut};
 ghost use Rattle.writer.specs.Block.{adding, blockOf, rowsOut, blockOut};
 ghost use Rattle.writer.specs.Close.{closeOf, closeOut};
-ghost use Rattle.writer.specs.Answer.{storedOf, enteredOf};
+ghost use Rattle.writer.specs.Answer.{storedOf};
 ghost use Rattle.writer_names.specs.Name.{nameOf, nameOut};
 ghost use Rattle.writer_names.specs.Answer.{namedOf};
+ghost use Rattle.writer_entries.specs.Entry.{entryOf, entryOut};
+ghost use Rattle.writer_entries.specs.Answer.{enteredOf};
 ghost use Rattle.host_writer.specs.State.{turnFor, numberOf, writerIn, stateOf};
 ghost use Rattle.host_writer.specs.Answers.{went, stayed, storing, naming, entering};
 use answer::Answer;
 use parts::Epoch;
 use verdict::Refusal;
-use writer::Entered;
 use writer::Pending;
 use writer::Stored;
 use writer::Turn;
 use writer::Writer;
+use writer_entries::Entered;
 use writer_names::Named;
 
 // A writer in numbers alone.
@@ -170,7 +171,7 @@ pub extern "C" fn hplog_add_entry(
     ensures bytes { λ _. ⌜ now (payload .exit) ≡ entryOut (writerIn state) (record { 0 = time }) (now (text .entry)) (recordsIn (now (fields .entry))) (fieldsOf (now (fields .entry))) (now (payload .entry)) ⌝ }
 {
     let w = writer_in(state);
-    let r = w.add_entry(payload, Epoch(time), fields, text);
+    let r = writer_entries::add_entry(w, payload, Epoch(time), fields, text);
     match r {
         Entered::Done(next) => behind(next, 0),
         Entered::Refused(e) => unchanged(state, e),

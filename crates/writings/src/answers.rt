@@ -1,11 +1,11 @@
 // What the writer's calls and repair answer, printed.
 use repair::Repaired;
 use views::print;
-use writer::Entered;
 use writer::Pending;
 use writer::Stored;
 use writer::Turn;
 use writer::Writer;
+use writer_entries::Entered;
 use writer_names::Named;
 
 // How many bytes were stored, and the first 200 of them.

@@ -7,9 +7,9 @@ use cursor::Value;
 use parts::Epoch;
 use repair::Repaired;
 use views::print;
-use writer::Entered;
 use writer::Stored;
 use writer::Writer;
+use writer_entries::Entered;
 use writer_names::Named;
 
 // What is kept from line to line, beside the lent bytes: the writer, and the length of the file.
@@ -105,7 +105,7 @@ fn add_entry(
 ) -> Draft {
     let w = s.writer;
     let n = text::reach(&*payload, 0, room);
-    let r = w.add_entry(&mut payload[..n], time, fields, text);
+    let r = writer_entries::add_entry(w, &mut payload[..n], time, fields, text);
     answers::entered(r);
     behind_entry(s, r)
 }
