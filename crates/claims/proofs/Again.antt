@@ -20,7 +20,7 @@ use Rattle.writer.specs.declared.state.Pending.{Pending}
 use Rattle.writer.specs.declared.state.Writer.{Writer}
 use Rattle.writer.specs.State.{isNew, isOpen, begunRules, begunWriter, newWriter}
 use Rattle.writer.specs.Begin.{beginRules}
-use Rattle.writer.specs.Block.{Adding, readBy, blockFor, takeRules, roomRules, blockRules}
+use Rattle.writer_blocks.specs.Block.{Adding, readBy, blockFor, takeRules, roomRules, blockRules}
 use Rattle.writer.specs.Close.{endRules, lastRules, lastBytes, closeRules, closeOf}
 use Rattle.writer.proofs.Beginning.{begin-sound}
 use Rattle.claims.specs.Disk.{Store, headerStore, blockStore, blockStores, openStores, closedStores}

@@ -20,14 +20,14 @@ use Rattle.layout.proofs.Parts.{length-block, length-dictionary}
 use Rattle.packing.specs.Rules.{largest}
 use Rattle.packing.specs.Table.{recordsIn, fieldsOf}
 use Rattle.lookup.specs.Lookup.{Found, numbered, missing}
-use Rattle.writer.proofs.Blocks.{block-fits}
+use Rattle.writer_blocks.proofs.Blocks.{block-fits}
 use Rattle.writer.proofs.Closes.{close-good, close-fits}
 use Rattle.writer.specs.declared.state.Writer.{Writer}
 use Rattle.writer.specs.State.{begunWriter, begunRules}
 use Rattle.writer.specs.Begin.{firstBytes, beginRules, beginOf, beginOut}
 use Rattle.writer_names.specs.Name.{nameRules, heldAs, namingOf, withName, nameOf, nameOut}
 use Rattle.writer_entries.specs.Entry.{entryRules, withEntry, entryOf}
-use Rattle.writer.specs.Block.{Adding, readBy, blockFor, takeRules, blockRules, withBlock, blockOf, rowsOut, blockOut}
+use Rattle.writer_blocks.specs.Block.{Adding, readBy, blockFor, takeRules, blockRules, withBlock, blockOf, rowsOut, blockOut}
 use Rattle.writer.specs.Close.{lastBytes, closeRules, closed, closeOf, closeOut}
 use Rattle.claims.specs.Disk.{headerStore, blockStore, closingStores}
 use Rattle.claims.specs.Calls.{begin, name, entry, block, close, Writing, next, lastStores, stores, accepted}

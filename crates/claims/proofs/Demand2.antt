@@ -21,7 +21,7 @@ use Rattle.names.specs.Dictionary.{dictionaryOf}
 use Rattle.reader.specs.Open.{openOut}
 use Rattle.access.specs.Access.{rowIn, dictionaryIn}
 use Rattle.writer.specs.State.{begunWriter}
-use Rattle.writer.specs.Block.{Adding, readBy, blockFor}
+use Rattle.writer_blocks.specs.Block.{Adding, readBy, blockFor}
 use Rattle.writer.specs.Close.{closeRules, closeOf}
 use Rattle.writer.proofs.Closes.{close-good}
 use Rattle.writer.proofs.Turns.{new-turn, closed-turn}

@@ -13,7 +13,7 @@ use Rattle.rows.proofs.Rows.{length-table}
 use Rattle.layout.specs.Layout.{Block, rowsFrom, endFrom}
 use Rattle.layout.proofs.Along.{length-rows-from}
 use Rattle.writer.specs.State.{begunWriter}
-use Rattle.writer.specs.Block.{blockFor}
+use Rattle.writer_blocks.specs.Block.{blockFor}
 use Rattle.recovery.specs.Recovery.{reportOf}
 use Rattle.claims.specs.Disk.{Store, Begun, disk, finished, dictionariesInFull, some}
 use Rattle.claims.specs.Calls.{Call, Writing, newWriting, run, addings, addingsInFull}

@@ -38,11 +38,11 @@ use Rattle.writer.specs.Begin.{beginRules, beginOf}
 use Rattle.writer_names.specs.Name.{heldAs, nameRules, withName, namingOf}
 use Rattle.writer_names.specs.Name as writer
 use Rattle.writer_entries.specs.Entry.{startFor, earliestFor, deltaFor, timeRules, entryRules, withEntry, entryOf, entryOut}
-use Rattle.writer.specs.Block.{Adding, readBy, blockFor, takeRules, roomRules, blockRules, withBlock, blockOf}
+use Rattle.writer_blocks.specs.Block.{Adding, readBy, blockFor, takeRules, roomRules, blockRules, withBlock, blockOf}
 use Rattle.writer.specs.Close.{closeRules, closed, closeOf}
 use Rattle.writer.proofs.Turns.{turn-begun, bounded}
 use Rattle.writer_entries.proofs.Entries.{start-open, earliest-open, start-new, earliest-new, time-from}
-use Rattle.writer.proofs.Blocks.{take-sound, room-sound}
+use Rattle.writer_blocks.proofs.Blocks.{take-sound, room-sound}
 use Rattle.writer.proofs.Closes.{close-good}
 use Rattle.claims.specs.Calls.{Call, begin, name, entry, block, close, Writing, newWriting, next, accepted, last}
 use Rattle.claims.specs.Built.{Ranges, AllRanges, openAfter, openBehind, entriesOpen, openAdding, Addable, HoldsEntries, EntriesBuilt}

@@ -14,7 +14,7 @@ use Rattle.entries.proofs.Examples.{small as payload, small-read}
 use Rattle.verdict.specs.Rules.{holds, firstBroken, ruled}
 use Rattle.writer.specs.State.{isNew, isBegun, isOpen, boundRules, begunRules}
 use Rattle.writer.specs.Begin.{firstBytes, beginRules, beginOf, beginOut}
-use Rattle.writer.specs.Block.{Adding, readBy, blockFor, takeRules, roomRules, blockRules, blockOf as addingOf, rowsOut, blockOut, withBlock}
+use Rattle.writer_blocks.specs.Block.{Adding, readBy, blockFor, takeRules, roomRules, blockRules, blockOf as addingOf, rowsOut, blockOut, withBlock}
 use Rattle.writer.specs.Close.{lastBytes, endRules, lastRules, closeRules, closeOf, closeOut, closed as closedWriter}
 use Rattle.names.specs.Dictionary.{nameAt, nextAt, placeOf, nameOf, held, shapeRules, newRule, namesRules, dictionaryRules}
 use Rattle.utf8.specs.Utf8.{within, tails, shapes, nothing, followers, utf8From, utf8Of}

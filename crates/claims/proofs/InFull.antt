@@ -12,7 +12,7 @@ use borrow.Author.Tests.{le-leb, lt-leb}
 use Rattle.verdict.specs.Rules.{Verdict, sound, broken, firstBroken}
 use Rattle.layout.specs.Layout.{blockBytes}
 use Rattle.writer.specs.Begin.{beginRules}
-use Rattle.writer.specs.Block.{Adding, blockFor, blockRules}
+use Rattle.writer_blocks.specs.Block.{Adding, blockFor, blockRules}
 use Rattle.writer.specs.Close.{closeRules}
 use Rattle.claims.specs.Disk.{Store, storeBytes, total, blockOf, inFull}
 use Rattle.claims.specs.Calls.{Call, begin, name, entry, block, close, Writing, next, stores, accepted, run, addings, addingsInFull}

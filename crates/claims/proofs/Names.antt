@@ -27,13 +27,13 @@ use Rattle.writer.specs.Begin.{Step, beginRules, beginOf}
 use Rattle.writer_names.specs.Name.{Naming, heldAs, newRules, unlessHeld, nameRules, withName, namingOf, nameBytes, appended, namesAfter, nameOut}
 use Rattle.writer_names.specs.Name as writer
 use Rattle.writer_entries.specs.Entry.{entryRules, withEntry, entryOf}
-use Rattle.writer.specs.Block.{blockRules, withBlock, blockOf}
+use Rattle.writer_blocks.specs.Block.{blockRules, withBlock, blockOf}
 use Rattle.writer.specs.Close.{lastBytes, endRules, lastRules, closeRules, closed, closeOf}
 use Rattle.writer.proofs.Turns.{turn-begun}
 use Rattle.writer_names.proofs.Names.{name-held, name-bounded}
 use Rattle.writer.proofs.Beginning.{begin-bounded}
 use Rattle.writer_entries.proofs.Entries.{entry-bounded}
-use Rattle.writer.proofs.Blocks.{block-bounded}
+use Rattle.writer_blocks.proofs.Blocks.{block-bounded}
 use Rattle.claims.specs.Calls.{Call, begin, name, entry, block, close, Writing, newWriting, ifGiven, next, last}
 use Rattle.claims.specs.Built.{among, heldAfter, heldBehind, namesHeld, namesBytes, plainNames, Closable, HoldsNames, NamesBuilt}
 use Rattle.claims.proofs.Calls.{parts-sound}

@@ -12,7 +12,7 @@ use Rattle.entries.specs.Model.{Entry}
 use Rattle.entries.specs.Reading.{entriesOf, lastTime}
 use Rattle.entries.specs.Block.{blockRules, heldAgainst, blockVerdict}
 use Rattle.entries.proofs.RoundTrip.{read-known}
-use Rattle.writer.specs.Block.{Adding, readBy, blockFor}
+use Rattle.writer_blocks.specs.Block.{Adding, readBy, blockFor}
 use Rattle.claims.specs.Blocks.{Valid}
 use Rattle.claims.proofs.Opens.{head-finished}
 

@@ -18,7 +18,7 @@ use Rattle.writer.specs.declared.state.Turn.the-variants as turn
 use Rattle.writer.specs.declared.state.Writer.{Writer}
 use Rattle.writer.specs.State.{isBegun, begunRules, begunWriter}
 use Rattle.writer.specs.Begin.{beginRules}
-use Rattle.writer.specs.Block.{Adding, blockFor, takeRules, blockRules, withBlock}
+use Rattle.writer_blocks.specs.Block.{Adding, blockFor, takeRules, blockRules, withBlock}
 use Rattle.writer.specs.Close.{closeRules, closed}
 use Rattle.writer.proofs.Turns.{not-begun, new-turn, begun-turn, closed-turn}
 use Rattle.writer.proofs.Beginning.{begin-turn}

@@ -16,7 +16,7 @@ use Rattle.entries.proofs.Accepted.{some-read, few-read, last-from-start, last-
 use Rattle.packing.specs.Rules.{largest}
 use Rattle.writer.specs.declared.state.Writer.{Writer}
 use Rattle.writer.specs.State.{isBegun, begunRules, begunWriter, noPending}
-use Rattle.writer.specs.Block.{Adding, readBy, blockFor, takeRules, withBlock}
+use Rattle.writer_blocks.specs.Block.{Adding, readBy, blockFor, takeRules, withBlock}
 use Rattle.writer.specs.Inner.{Bounded}
 use Rattle.writer.proofs.Turns.{is-begun, bounds-sound}
 use Rattle.claims.specs.Blocks.{Good, Valid}

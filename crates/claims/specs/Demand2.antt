@@ -20,7 +20,7 @@ use Rattle.names.specs.Dictionary.{dictionaryOf}
 use Rattle.frame.specs.declared.Frame.{Frame}
 use Rattle.reader.specs.Open.{openOf, openOut}
 use Rattle.access.specs.Access.{rowIn, storedOf, dictionaryIn}
-use Rattle.writer.specs.Block.{Adding, readBy, blockFor}
+use Rattle.writer_blocks.specs.Block.{Adding, readBy, blockFor}
 use Rattle.claims.specs.Calls.{Call, AllTyped, newWriting, addings, Closing, fileOf}
 
 -- ---- what the reader finds

@@ -8,7 +8,7 @@ use Rattle.verdict.specs.Rules.{given}
 use Rattle.wire.specs.Wire.{splice}
 use Rattle.rows.specs.Rows.{stride, tableBytes}
 use Rattle.layout.specs.Layout.{Block, blocksBytes, rowsFrom, endFrom, finishedBytes}
-use Rattle.writer.specs.Block.{Adding, blockFor}
+use Rattle.writer_blocks.specs.Block.{Adding, blockFor}
 use Rattle.recovery.specs.Recovery.{Report, recoverOf, recoverOut}
 use Rattle.repair.specs.Repair.{repairOf, repairOut}
 use Rattle.claims.specs.Disk.{disk, finished, dictionariesInFull, some}

@@ -5,13 +5,13 @@ ghost use lib.ListN.{length};
 ghost use Rattle.packing.specs.Table.{recordsIn, fieldsOf};
 ghost use Rattle.writer.specs.State.{newWriter};
 ghost use Rattle.writer.specs.Begin.{beginOf, beginOut};
-ghost use Rattle.writer.specs.Block.{adding, blockOf, rowsOut, blockOut};
 ghost use Rattle.writer.specs.Close.{closeOf, closeOut};
 ghost use Rattle.writer.specs.Answer.{storedOf};
 ghost use Rattle.writer_names.specs.Name.{nameOf, nameOut};
 ghost use Rattle.writer_names.specs.Answer.{namedOf};
 ghost use Rattle.writer_entries.specs.Entry.{entryOf, entryOut};
 ghost use Rattle.writer_entries.specs.Answer.{enteredOf};
+ghost use Rattle.writer_blocks.specs.Block.{adding, blockOf, rowsOut, blockOut};
 ghost use Rattle.host_writer.specs.State.{turnFor, numberOf, writerIn, stateOf};
 ghost use Rattle.host_writer.specs.Answers.{went, stayed, storing, naming, entering};
 use answer::Answer;
@@ -191,7 +191,7 @@ pub extern "C" fn hplog_add_block(
     ensures { λ r. ⌜ (r ≡ storing state (blockOf (writerIn state) (adding (record { 0 = start }) (now (plain .entry)) (now (stored .entry)) names) (length (now (rows .entry))) (length (now (out .entry))))) × ((now (rows .exit) ≡ rowsOut (writerIn state) (adding (record { 0 = start }) (now (plain .entry)) (now (stored .entry)) names) (now (rows .entry)) (length (now (out .entry)))) × (now (out .exit) ≡ blockOut (writerIn state) (adding (record { 0 = start }) (now (plain .entry)) (now (stored .entry)) names) (length (now (rows .entry))) (now (out .entry)))) ⌝ }
 {
     let w = writer_in(state);
-    let r = w.add_block(rows, out, Epoch(start), plain, stored, names);
+    let r = writer_blocks::add_block(w, rows, out, Epoch(start), plain, stored, names);
     stored_by(state, r)
 }
 

@@ -229,7 +229,8 @@ fn add_block(
     let start = a.start;
     let n = text::reach(&*table, 0, a.rows);
     let k = text::reach(&*out, 0, a.room);
-    w.add_block(
+    writer_blocks::add_block(
+        w,
         &mut table[..n],
         &mut out[..k],
         start,
@@ -258,7 +259,7 @@ pub fn block(
 // A block of one entry of no fields, as early as may be, with all that is lent.
 fn small_block(w: Writer, table: &mut [u8], out: &mut [u8]) -> Stored {
     let end = w.end;
-    w.add_block(table, out, end, b"\x00\x00", b"\x00", w.given)
+    writer_blocks::add_block(w, table, out, end, b"\x00\x00", b"\x00", w.given)
 }
 
 // One small block, whose answer is printed or not.
