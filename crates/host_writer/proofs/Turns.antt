@@ -1,5 +1,5 @@
 -- A state stands for its writer, and a turn of no number for a closed one. Assumes nothing.
-use mathlib.Core.Path.{_≡_, refl, ap}
+use mathlib.Core.Path.{_≡_, refl}
 use Prim.Native.Nat.{ℕ, zero, suc}
 use Rattle.writer.specs.declared.state.Turn.{Turn}
 use Rattle.writer.specs.declared.state.Turn.the-variants.{New, Begun, Closed}

@@ -1,6 +1,5 @@
 // The writer for programs in C, its state by value (include/hplog.h).
 ghost use mathlib.Core.Path.{_≡_};
-ghost use Prim.Native.Nat.{_+_};
 ghost use lib.ListN.{length};
 ghost use Rattle.packing.specs.Table.{recordsIn, fieldsOf};
 ghost use Rattle.writer.specs.State.{newWriter};
@@ -8,9 +7,7 @@ ghost use Rattle.writer.specs.Begin.{beginOf, beginOut};
 ghost use Rattle.writer.specs.Close.{closeOf, closeOut};
 ghost use Rattle.writer.specs.Answer.{storedOf};
 ghost use Rattle.writer_names.specs.Name.{nameOf, nameOut};
-ghost use Rattle.writer_names.specs.Answer.{namedOf};
 ghost use Rattle.writer_entries.specs.Entry.{entryOf, entryOut};
-ghost use Rattle.writer_entries.specs.Answer.{enteredOf};
 ghost use Rattle.writer_blocks.specs.Block.{adding, blockOf, rowsOut, blockOut};
 ghost use Rattle.host_writer.specs.State.{turnFor, numberOf, writerIn, stateOf};
 ghost use Rattle.host_writer.specs.Answers.{went, stayed, storing, naming, entering};
