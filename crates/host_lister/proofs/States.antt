@@ -1,7 +1,7 @@
 -- A kind that is none of a listing's is the end. Assumes nothing.
 use mathlib.Core.Path.{_≡_, refl}
 use Prim.Native.Nat.{ℕ, zero, suc}
-use Rattle.lister.specs.declared.State.the-variants.{End}
+use Rattle.states.specs.declared.State.the-variants.{End}
 use Rattle.host_lister.specs.declared.Listing.{Listing}
 use Rattle.host_lister.specs.Listing.{stateFor}
 

@@ -6,7 +6,7 @@ use Rattle.verdict.specs.Rules.{given, onGiven}
 use Rattle.contents.specs.Contents.{contentsOf}
 use Rattle.tokens.specs.declared.Token.{Token}
 use Rattle.tokens.specs.Tokens.{joined}
-use Rattle.lister.specs.Listing.{tokensFrom}
+use Rattle.states.specs.Listing.{tokensFrom}
 use Rattle.lister.specs.Steps.{Rendered}
 use Rattle.input.specs.Printed.{printedOf}
 use Rattle.answer.specs.declared.Answer.{Answer}

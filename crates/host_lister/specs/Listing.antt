@@ -1,8 +1,8 @@
 -- Where a listing stands, as a struct for programs in C. Assumes nothing.
 use Prim.Native.Nat.{ℕ, zero, suc}
-use Rattle.lister.specs.declared.Place.{Place}
-use Rattle.lister.specs.declared.State.{State}
-use Rattle.lister.specs.declared.State.the-variants.{Blocks, Entries, Entry, Fields, Name, Value, Text, Refused, End}
+use Rattle.states.specs.declared.Place.{Place}
+use Rattle.states.specs.declared.State.{State}
+use Rattle.states.specs.declared.State.the-variants.{Blocks, Entries, Entry, Fields, Name, Value, Text, Refused, End}
 use Rattle.host_lister.specs.declared.Listing.{Listing}
 
 abbrev pub placeIn : Listing → Place

@@ -4,8 +4,8 @@ ghost use Rattle.host_lister.specs.Listing.{placeIn, stateIn, listingAt,
 ghost use Rattle.host_lister.specs.Answers.{Started, Went};
 use answer::Answer;
 use contents::Contents;
-use lister::Place;
-use lister::State;
+use states::Place;
+use states::State;
 use verdict::Refusal;
 
 // A state of the listing in numbers alone. A refusal's number stands in `fields` and its place in `from`, as do the totals.
@@ -138,7 +138,7 @@ pub extern "C" fn hplog_list(log: &[u8], book: &[u8]) -> Listed
         },
         Contents::Sound(blocks, entries) => Listed {
             answer: answer::accepted(entries),
-            next: listing_of(lister::start(book, blocks as u32, entries)),
+            next: listing_of(states::start(book, blocks as u32, entries)),
         },
     }
 }
