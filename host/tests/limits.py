@@ -3,6 +3,7 @@
 import ctypes
 import os
 import resource
+import signal
 import time
 
 from logs import UNCLOSED, WHOLE, maker, write_long_text, write_zeros
@@ -62,7 +63,9 @@ def shortened(suite):
         with open(f"/proc/{process.pid}/maps") as maps:
             if "slow.hplog" in maps.read():
                 break
+    process.send_signal(signal.SIGSTOP)
     os.truncate(slow, 4096)
+    process.send_signal(signal.SIGCONT)
     out, err = process.communicate()
     answer = (process.returncode, out, err)
     line = b"hplog: a file became shorter, or its disk failed, while it was in use\n"
