@@ -95,9 +95,9 @@ def silent(suite):
 
 
 def printing(suite):
-    """A listing of more than a GiB, ended once progress is seen: one that goes elsewhere, or of which nothing is printed yet."""
+    """A listing of eight GiB, ended once progress is seen: one that goes elsewhere, or of which nothing is printed yet."""
     log, book = suite.path("long.hplog"), suite.path("long.plb")
-    write_long_text(log, book, 256 << 20)
+    write_long_text(log, book, 1 << 30)
     for words, out in ((["cat", log, book], subprocess.DEVNULL), (["read", log, book, "--from", "1001"], None)):
         process, terminal = suite.start_on_terminal(*words, stdout=out)
         text = terminal.until(b" MiB, ") + terminal.until(b" s")
