@@ -6,8 +6,8 @@ use native.Mathlib.Omega.{arith}
 use lib.ListN.{length, take, drop, length-append}
 use lib.Seq.{take-at, drop-at, drop-drop}
 use borrow.Author.Tests.{leb-true}
-use Rattle.verdict.specs.Rules.{Rule, holds, Verdict, sound, broken, firstBroken, verdictIn, ruled}
-use Rattle.verdict.proofs.Laws.{sound-held, held-sound, held-parts, first-ruled}
+use Rattle.verdict.specs.Rules.{holds, Verdict, sound, broken, firstBroken, verdictIn, ruled}
+use Rattle.verdict.proofs.Laws.{sound-held, parts-sound, first-ruled}
 use Rattle.wire.specs.Wire.{part, splice}
 use Rattle.wire.proofs.Splices.{splice-there}
 use Rattle.parts.specs.declared.time.Epoch.{Epoch}
@@ -29,66 +29,62 @@ use Rattle.writer_names.specs.Name.{nameRules, heldAs, namingOf, withName, name
 use Rattle.writer_entries.specs.Entry.{entryRules, withEntry, entryOf}
 use Rattle.writer_blocks.specs.Block.{Adding, readBy, blockFor, takeRules, blockRules, withBlock, blockOf, rowsOut, blockOut}
 use Rattle.writer.specs.Close.{lastBytes, closeRules, closed, closeOf, closeOut}
-use Rattle.claims.specs.Disk.{headerStore, blockStore, closingStores}
-use Rattle.claims.specs.Calls.{begin, name, entry, block, close, Writing, next, lastStores, stores, accepted}
-
--- rules behind rules hold where all of them do
-pub parts-sound : (rs qs : List Rule) → firstBroken (rs ++ qs) ≡ sound → (firstBroken rs ≡ sound) × (firstBroken qs ≡ sound)
-parts-sound rs qs e =
-    let h = held-parts rs qs (sound-held (rs ++ qs) e) in
-    (held-sound rs (h .0), held-sound qs (h .1))
+use Rattle.disk.specs.Disk.{headerStore, blockStore}
+use Rattle.disk.proofs.Stores.{closingStores}
+use Rattle.claims.specs.Calls.{begin, name, entry, block, close, next, lastStores, handed, stores, accepted}
 
 -- what was laid over the front of an output is its first bytes
-handed : (out xs : List ℕ) (k : ℕ) → k ≡ length xs → length xs ≤ length out → take k (splice out 0 xs) ≡ xs
-handed out xs k e h = rw e (splice-there out xs 0 (omega arith))
+laid-first : (out xs : List ℕ) (k : ℕ) → k ≡ length xs → length xs ≤ length out → take k (splice out 0 xs) ≡ xs
+laid-first out xs k e h = rw e (splice-there out xs 0 (omega arith))
 
 -- ---- calls that leave the blocks as they are
 
-pub record Idle (h after : Writing) : Type 0 where
-  pub turn : after .writer .turn ≡ h .writer .turn
-  pub blocks : after .writer .blocks ≡ h .writer .blocks
-  pub length : after .writer .length ≡ h .writer .length
-  pub end : after .writer .end ≡ h .writer .end
-  pub given : after .writer .given ≡ h .writer .given
-  pub table : after .table ≡ h .table
+pub record Idle (w v : Writer) : Type 0 where
+  pub turn : v .turn ≡ w .turn
+  pub blocks : v .blocks ≡ w .blocks
+  pub length : v .length ≡ w .length
+  pub end : v .end ≡ w .end
+  pub given : v .given ≡ w .given
 
-module _ (h : Writing) where
-  pub begin-refused : (out : List ℕ) (n p : ℕ) → firstBroken (beginRules (h .writer) (length out)) ≡ broken n p
-      → Idle h (next h (begin out)) × (stores h (begin out) ≡ [])
+idle-same : (w : Writer) → Idle w w
+idle-same w = record { turn = refl; blocks = refl; length = refl; end = refl; given = refl }
+
+module _ (w : Writer) where
+  pub begin-refused : (out : List ℕ) (n p : ℕ) → firstBroken (beginRules w (length out)) ≡ broken n p
+      → Idle w (next w (begin out)) × (stores w (begin out) ≡ [])
   unfolding next stores beginOf
-  begin-refused out n p e = rw e (record { turn = refl; blocks = refl; length = refl; end = refl; given = refl; table = refl }, refl)
+  begin-refused out n p e = rw e (idle-same w, refl)
 
-  named : (f : Found) (bytes d : List ℕ) → Idle h (record { writer = namingOf f (h .writer) bytes .next; dictionary = d; payload = h .payload; table = h .table })
+  named : (f : Found) (bytes : List ℕ) → Idle w (namingOf f w bytes .next)
   unfolding withName
-  named (numbered i) bytes d = record { turn = refl; blocks = refl; length = refl; end = refl; given = refl; table = refl }
-  named missing bytes d = record { turn = refl; blocks = refl; length = refl; end = refl; given = refl; table = refl }
+  named (numbered i) bytes = idle-same w
+  named missing bytes = record { turn = refl; blocks = refl; length = refl; end = refl; given = refl }
 
-  pub name-idle : (bytes : List ℕ) → Idle h (next h (name bytes))
+  pub name-idle : (d bytes : List ℕ) → Idle w (next w (name d bytes))
   unfolding next nameOf
-  name-idle bytes = go (firstBroken (nameRules (h .writer) (h .dictionary) bytes)) refl
+  name-idle d bytes = go (firstBroken (nameRules w d bytes)) refl
     where
-      go : (v : Verdict) → firstBroken (nameRules (h .writer) (h .dictionary) bytes) ≡ v → Idle h (next h (name bytes))
-      go sound e = rw e (named (heldAs (h .writer) (h .dictionary) bytes) bytes (nameOut (h .writer) (h .dictionary) bytes))
-      go (broken n p) e = rw e (record { turn = refl; blocks = refl; length = refl; end = refl; given = refl; table = refl })
+      go : (v : Verdict) → firstBroken (nameRules w d bytes) ≡ v → Idle w (next w (name d bytes))
+      go sound e = rw e (named (heldAs w d bytes) bytes)
+      go (broken n p) e = rw e (idle-same w)
 
-  pub entry-idle : (t : Epoch) (text table : List ℕ) → Idle h (next h (entry t text table))
+  pub entry-idle : (p : List ℕ) (t : Epoch) (text fields : List ℕ) → Idle w (next w (entry p t text fields))
   unfolding next entryOf withEntry
-  entry-idle t text table = go (firstBroken (entryRules (h .writer) t text (recordsIn table) (fieldsOf table) (length (h .payload)))) refl
+  entry-idle p t text fields = go (firstBroken (entryRules w t text (recordsIn fields) (fieldsOf fields) (length p))) refl
     where
-      go : (v : Verdict) → firstBroken (entryRules (h .writer) t text (recordsIn table) (fieldsOf table) (length (h .payload))) ≡ v
-          → Idle h (next h (entry t text table))
-      go sound e = rw e (record { turn = refl; blocks = refl; length = refl; end = refl; given = refl; table = refl })
-      go (broken n p) e = rw e (record { turn = refl; blocks = refl; length = refl; end = refl; given = refl; table = refl })
+      go : (v : Verdict) → firstBroken (entryRules w t text (recordsIn fields) (fieldsOf fields) (length p)) ≡ v → Idle w (next w (entry p t text fields))
+      go sound e = rw e (record { turn = refl; blocks = refl; length = refl; end = refl; given = refl })
+      go (broken n q) e = rw e (idle-same w)
 
-  pub block-refused : (a : Adding) (out : List ℕ) (n p : ℕ) → firstBroken (blockRules (h .writer) a (length (h .table)) (length out)) ≡ broken n p
-      → Idle h (next h (block a out)) × (stores h (block a out) ≡ []) × (accepted h (block a out) ≡ [])
+  pub block-refused : (t : List ℕ) (a : Adding) (out : List ℕ) (n p : ℕ) → firstBroken (blockRules w a (length t) (length out)) ≡ broken n p
+      → Idle w (next w (block t a out)) × (stores w (block t a out) ≡ []) × (accepted w (block t a out) ≡ []) × (rowsOut w a t (length out) ≡ t)
   unfolding next stores accepted blockOf rowsOut
-  block-refused a out n p e = rw e (record { turn = refl; blocks = refl; length = refl; end = refl; given = refl; table = refl }, refl, refl)
+  block-refused t a out n p e = rw e (idle-same w, refl, refl, refl)
 
-  pub close-refused : (plain stored out : List ℕ) (n p : ℕ) → firstBroken (closeRules (h .writer) (h .table) plain stored (length out)) ≡ broken n p
-      → Idle h (next h (close plain stored out)) × (stores h (close plain stored out) ≡ [])
+  pub close-refused : (t plain stored out : List ℕ) (n p : ℕ) → firstBroken (closeRules w t plain stored (length out)) ≡ broken n p
+      → Idle w (next w (close t plain stored out)) × (stores w (close t plain stored out) ≡ [])
   unfolding next stores closeOf
-  close-refused plain stored out n p e = rw e (record { turn = refl; blocks = refl; length = refl; end = refl; given = refl; table = refl }, refl)
+  close-refused t plain stored out n p e = rw e (idle-same w, refl)
 
 -- ---- calls that are accepted
 
@@ -97,22 +93,18 @@ unfolding blockFor
 block-size a room h = h
 
 -- begin: "the first header"
-module _ (h : Writing) (out : List ℕ) (e : firstBroken (beginRules (h .writer) (length out)) ≡ sound) where
+module _ (w : Writer) (out : List ℕ) (e : firstBroken (beginRules w (length out)) ≡ sound) where
   begin-room : 64 ≤ length out
   unfolding beginRules holds
-  begin-room = leb-true _ _ (sound-held (beginRules (h .writer) (length out)) e .1 .0)
+  begin-room = leb-true _ _ (sound-held (beginRules w (length out)) e .1 .0)
 
-  pub begin-leaves : next h (begin out) .writer ≡ begunWriter
+  pub begin-leaves : next w (begin out) ≡ begunWriter
   unfolding next beginOf
   begin-leaves = rw e
 
-  pub begin-keeps : next h (begin out) .table ≡ h .table
-  unfolding next
-  begin-keeps = refl
-
-  pub begin-stores : stores h (begin out) ≡ headerStore (headerBytes emptyHeader) ∷ []
-  unfolding stores beginOf beginOut firstBytes
-  begin-stores = rw e (ap (λ (x : List ℕ). headerStore x ∷ []) (handed out (headerBytes emptyHeader) 64 (sym (length-header emptyHeader)) (rw length-header begin-room)))
+  pub begin-stores : stores w (begin out) ≡ headerStore (headerBytes emptyHeader) ∷ []
+  unfolding stores handed beginOf beginOut firstBytes
+  begin-stores = rw e (ap (λ (x : List ℕ). headerStore x ∷ []) (laid-first out (headerBytes emptyHeader) 64 (sym (length-header emptyHeader)) (rw length-header begin-room)))
 
 -- what is asked of an adding apart from its turn and its room
 pub record Takes (w : Writer) (a : Adding) : Type 0 where
@@ -132,27 +124,27 @@ module _ (w : Writer) (a : Adding) (table room : ℕ) where
   block-room e = block-fits w a table room e
 
 -- a block: "adding a block that block"
-module _ (h : Writing) (a : Adding) (out : List ℕ) (e : firstBroken (blockRules (h .writer) a (length (h .table)) (length out)) ≡ sound) where
-  pub block-leaves : next h (block a out) .writer ≡ withBlock (h .writer) a
+module _ (w : Writer) (t : List ℕ) (a : Adding) (out : List ℕ) (e : firstBroken (blockRules w a (length t) (length out)) ≡ sound) where
+  pub block-leaves : next w (block t a out) ≡ withBlock w a
   unfolding next blockOf
   block-leaves = rw e
 
-  pub block-row : next h (block a out) .table ≡ splice (h .table) (h .writer .blocks * stride) (tableBytes (rowFor (h .writer .length) (blockFor a) ∷ []))
-  unfolding next rowsOut
+  pub block-row : rowsOut w a t (length out) ≡ splice t (w .blocks * stride) (tableBytes (rowFor (w .length) (blockFor a) ∷ []))
+  unfolding rowsOut
   block-row = rw e
 
-  pub block-accepted : accepted h (block a out) ≡ a ∷ []
+  pub block-accepted : accepted w (block t a out) ≡ a ∷ []
   unfolding accepted blockOf
   block-accepted = rw e
 
-  pub block-stores : stores h (block a out) ≡ blockStore (blockFor a) (blockBytes (h .writer .blocks) (blockFor a)) ∷ []
-  unfolding stores blockOf blockOut
+  pub block-stores : stores w (block t a out) ≡ blockStore a (blockBytes (w .blocks) (blockFor a)) ∷ []
+  unfolding stores handed blockOf blockOut
   block-stores =
-      let n = h .writer .blocks in
+      let n = w .blocks in
       let b = blockFor a in
       let l = length-block n b in
-      let room = block-size a (length out) (block-room (h .writer) a (length (h .table)) (length out) e .1) in
-      rw e (ap (λ (x : List ℕ). blockStore b x ∷ []) (handed out (blockBytes n b) (blockSize b) (sym l) (rw l room)))
+      let room = block-size a (length out) (block-room w a (length t) (length out) e .1) in
+      rw e (ap (λ (x : List ℕ). blockStore a x ∷ []) (laid-first out (blockBytes n b) (blockSize b) (sym l) (rw l room)))
 
 -- the last four stores end to end, taken apart again
 four : (h d i f : List ℕ) (k : ℕ) → length h ≡ 64 → length d ≡ 4 + k → length f ≡ 24 → (let x = h ++ (d ++ (i ++ f)) in
@@ -179,16 +171,18 @@ last-closing at rows d =
     rw (e .0, e .1, e .2, e .3)
 
 -- closing: "the last four end to end"
-module _ (h : Writing) (plain stored out : List ℕ) (e : firstBroken (closeRules (h .writer) (h .table) plain stored (length out)) ≡ sound) where
-  pub close-leaves : next h (close plain stored out) .writer ≡ closed (h .writer)
+module _ (w : Writer) (t plain stored out : List ℕ) (e : firstBroken (closeRules w t plain stored (length out)) ≡ sound) where
+  pub close-leaves : next w (close t plain stored out) ≡ closed w
   unfolding next closeOf
   close-leaves = rw e
 
   pub close-stored : (1 ≤ length stored) × (length stored ≤ largest)
-  close-stored = let g = close-good (h .writer) (h .table) plain stored (length out) e in (g .some, omega (arith, g .fits))
+  close-stored = let g = close-good w t plain stored (length out) e in (g .some, omega (arith, g .fits))
 
-  pub close-stores : stores h (close plain stored out) ≡ closingStores (h .writer .length) (rowsOf (h .writer .blocks) (h .table)) stored
-  unfolding stores closeOf closeOut lastBytes
+  pub close-stores : stores w (close t plain stored out) ≡ closingStores (w .length) (rowsOf (w .blocks) t) stored
+  unfolding stores handed closeOf closeOut lastBytes
   close-stores =
-      let x = lastBytes (h .writer) (h .table) stored in
-      rw e (ap (lastStores stored) (handed out x (length x) refl (close-fits (h .writer) (h .table) plain stored (length out) e)) ∙ last-closing (h .writer .length) (rowsOf (h .writer .blocks) (h .table)) stored)
+      let x = lastBytes w t stored in
+      rw e
+      (ap (lastStores stored) (laid-first out x (length x) refl (close-fits w t plain stored (length out) e))
+      ∙ last-closing (w .length) (rowsOf (w .blocks) t) stored)

@@ -1,11 +1,10 @@
 -- Demand 2, proved: what any list of calls and an accepted closing store opens, and its blocks are read as the addings took them. Assumes nothing.
 use mathlib.Core.Path.{_≡_, refl, sym, ap, _∙_}
-use mathlib.Core.List.{List, [], _∷_, _++_, map, map-append, append-nil}
+use mathlib.Core.List.{List, [], _∷_, _++_, map, map-append}
 use Prim.Native.Nat.{ℕ, _*_, _^_, _≤_, _<_}
 use native.Mathlib.Omega.{arith}
 use lib.ListN.{length, length-map}
-use Rattle.verdict.specs.Rules.{sound, firstBroken, Outcome, given, refused, verdictIn}
-use Rattle.verdict.proofs.Laws.{never-both}
+use Rattle.verdict.specs.Rules.{sound, Outcome, given, refused, verdictIn}
 use Rattle.wire.specs.Wire.{leAt}
 use Rattle.parts.specs.declared.BlockHeader.{BlockHeader}
 use Rattle.parts.specs.declared.time.Epoch.{Epoch}
@@ -18,22 +17,20 @@ use Rattle.entries.specs.Model.{Entry}
 use Rattle.entries.specs.Reading.{entriesOf}
 use Rattle.entries.proofs.RoundTrip as trips
 use Rattle.names.specs.Dictionary.{dictionaryOf}
-use Rattle.reader.specs.Open.{openOut}
+use Rattle.reader.specs.Open.{openOf, openOut}
 use Rattle.access.specs.Access.{rowIn, dictionaryIn}
-use Rattle.writer.specs.State.{begunWriter}
+use Rattle.writer.specs.State.{begunWriter, newWriter}
 use Rattle.writer_blocks.specs.Block.{Adding, readBy, blockFor}
-use Rattle.writer.specs.Close.{closeRules, closeOf}
 use Rattle.writer.proofs.Closes.{close-good}
-use Rattle.writer.proofs.Turns.{new-turn, closed-turn}
-use Rattle.claims.specs.Disk.{Store, openStores, closedStores, finished}
-use Rattle.claims.specs.Calls.{Call, close, Writing, newWriting, last, run, addings, fileOf}
+use Rattle.disk.proofs.Opens.{finishedFile, finishedFrame, opens, frame-finished, dictionary-finished, head-finished, stored-finished, row-finished}
+use Rattle.disk.proofs.Readings.{more-names, block-finished}
+use Rattle.claims.specs.Calls.{Call, close, run, addings, newWriting, Fair, Closes, fileOf}
 use Rattle.claims.specs.Demand2.{Opening, Reading, Finished, Demand2, EntryTrips}
-use Rattle.claims.proofs.Disk.{finished-closed}
-use Rattle.claims.proofs.Opens.{finishedFile, finishedFrame, opens, frame-finished, dictionary-finished, head-finished, stored-finished, row-finished}
-use Rattle.claims.proofs.Readings.{more-names, block-finished}
+use Rattle.claims.specs.Steps.{StepsRead}
 use Rattle.claims.proofs.Taken.{after, Taken, blocks-valid, blocks-few, taken-next, names-given}
-use Rattle.claims.proofs.Runs.{Between, Stage, fresh, amid, done, stage-new, close-turn, closing-is}
-use Rattle.claims.proofs.Again.{run-append, settle-sound}
+use Rattle.claims.proofs.Steps.{steps-read}
+use Rattle.claims.proofs.Lookups.{looks-up}
+use Rattle.claims.proofs.Closings.{closing-rules, closing-between, file-is, closed-stores, closed-late}
 
 -- ---- the file of addings that were taken, and a dictionary
 
@@ -46,7 +43,8 @@ module _ (xs : List Adding) (t : Taken begunWriter xs) (stored : List ℕ) (some
   rows-room : (table : List ℕ) → length xs * stride ≤ length table → length (tableBytes (rowsFrom 64 (map blockFor xs))) ≤ length table
   rows-room table h = let bs = map blockFor xs in omega (arith, length-table (rowsFrom 64 bs), length-rows-from 64 bs, length-map xs blockFor)
 
-  opening : (table : List ℕ) → length xs * stride ≤ length table → Opening (finishedFile (map blockFor xs) stored) table stored (map blockFor xs)
+  opening : (table : List ℕ) → length xs * stride ≤ length table → (
+      let f = finishedFile (map blockFor xs) stored in Opening (openOf f (length table)) f table (openOut f table) stored (map blockFor xs))
   opening table h =
       let bs = map blockFor xs in
       let f = finishedFile bs stored in
@@ -94,7 +92,7 @@ module _ (xs : List Adding) (t : Taken begunWriter xs) (stored : List ℕ) (some
 
     reading : (names : ℕ) → after begunWriter xs .given ≤ names → (table : List ℕ) → length xs * stride ≤ length table
         → Reading (finishedFile (map blockFor xs) stored) (openOut (finishedFile (map blockFor xs) stored) table) (length xs) names before a
-    unfolding rowFor blockFor
+    unfolding rowFor blockFor StepsRead
     reading names known table h =
         let bs = map blockFor xs in
         let v = blocks-valid xs t in
@@ -103,6 +101,7 @@ module _ (xs : List Adding) (t : Taken begunWriter xs) (stored : List ℕ) (some
         let e = read-here .1 in
         let g : a .names ≤ after begunWriter xs .given = rw (← split) at (names-given a begunWriter before after-it (rw split at t)) in
         let l : a .names ≤ names = omega arith in
+        let reads = ap (λ (s : Epoch). entriesOf (a .plain) (s .0) names) start-here ∙ more-names a es e names l in
         record {
           row = rowFor (endFrom 64 (map blockFor before)) (blockFor a);
           located = located-here table h;
@@ -112,49 +111,38 @@ module _ (xs : List Adding) (t : Taken begunWriter xs) (stored : List ℕ) (some
           accepted = block-finished bs v few stored some fits a es e names l (map blockFor before) (map blockFor after-it) split-blocks;
           entries = es;
           took = e;
-          reads = ap (λ (s : Epoch). entriesOf (a .plain) (s .0) names) start-here ∙ more-names a es e names l;
+          reads = reads;
+          steps = steps-read (a .plain) _ names es (taken-next a begunWriter before after-it (rw split at t) .1 .0) reads;
         }
 
   finished-file : (plain : List ℕ) → dictionaryOf plain ≡ given (leAt 4 plain 0) → after begunWriter xs .given ≤ leAt 4 plain 0
       → Finished (finishedFile (map blockFor xs) stored) xs plain stored
   finished-file plain names known =
-      record { opens = opening; blocks = λ table h before a later split. reading before a later split (leAt 4 plain 0) known table h; names = names }
+      record {
+        bytes = refl;
+        opens = opening;
+        blocks = λ table h before a later split. reading before a later split (leAt 4 plain 0) known table h;
+        accepted = names;
+        names = looks-up plain (leAt 4 plain 0) names;
+      }
 
 -- ---- calls, and a closing that is accepted behind them
 
--- it is accepted between begin and closing only
-closing-amid : (table : List ℕ) (xs : List Adding) (ss : List Store) (k : Writing) (plain stored out : List ℕ)
-    → firstBroken (closeRules (k .writer) (k .table) plain stored (length out)) ≡ sound → Stage table xs ss k
-    → Between table xs k × (ss ≡ openStores (map blockFor xs))
-closing-amid table xs ss k plain stored out e (fresh n t x s) =
-    absurd (never-both _ 17 0 (close-turn k (new-turn (k .writer .turn) n .1) plain stored out) e)
-closing-amid table xs ss k plain stored out e (amid b s) = (b, s)
-closing-amid table xs ss k plain stored out e (done c t d p q s) =
-    absurd (never-both _ 17 0 (close-turn k (closed-turn (k .writer .turn) c .1) plain stored out) e)
-
-module _ (h : Writing) (cs : List Call) (plain stored out : List ℕ)
-    (e : firstBroken (closeRules (last h cs .writer) (last h cs .table) plain stored (length out)) ≡ sound)
-    (b : Between (h .table) (addings h cs) (last h cs)) (s : run h cs ≡ openStores (map blockFor (addings h cs))) where
-  run-closes : run h (cs ++ (close plain stored out ∷ [])) ≡ closedStores (map blockFor (addings h cs)) stored
-  unfolding run closedStores
-  run-closes = run-append h cs (close plain stored out ∷ []) ∙ rw (s, closing-is (h .table) (addings h cs) (last h cs) b plain stored out e, append-nil)
-
-  finishes : Finished (fileOf h cs plain stored out) (addings h cs) plain stored
-  finishes =
-      let xs = addings h cs in
-      let g = close-good (last h cs .writer) (last h cs .table) plain stored (length out) e in
-      let n : after begunWriter xs .given ≤ leAt 4 plain 0 = rw (b .given) at (g .given) in
-      rw (ap finished run-closes ∙ finished-closed (map blockFor xs) stored)
-      (finished-file xs (b .taken) stored (g .some) (omega (arith, g .fits)) plain (g .dictionary) n)
+finishes : (cs : List Call) (t plain stored out : List ℕ) → Fair newWriting (cs ++ (close t plain stored out ∷ [])) → Closes cs t plain stored out
+    → Finished (fileOf cs t plain stored out []) (addings newWriter cs) plain stored
+finishes cs t plain stored out f c =
+    let xs = addings newWriter cs in
+    let b = closing-between cs t plain stored out f c .0 in
+    let g = close-good _ t plain stored (length out) (closing-rules cs t plain stored out f c) in
+    let n : after begunWriter xs .given ≤ leAt 4 plain 0 = rw (b .given) at (g .given) in
+    rw (file-is cs t plain stored out f c) (finished-file xs (b .taken) stored (g .some) (omega (arith, g .fits)) plain (g .dictionary) n)
 
 pub demand-2 : Demand2
-unfolding Demand2 closeOf
-demand-2 d p table cs typed plain stored out c =
-    let h = newWriting d p table in
-    let k = last h cs in
-    let e = sym (settle-sound (firstBroken (closeRules (k .writer) (k .table) plain stored (length out))) _) ∙ c in
-    let i = closing-amid (h .table) (addings h cs) (run h cs) k plain stored out e (stage-new cs typed h refl) in
-    finishes h cs plain stored out e (i .0) (i .1)
+demand-2 =
+    record {
+      finished = λ cs t plain stored out f c later. rw (closed-stores cs t plain stored out c later) (finishes cs t plain stored out f c);
+      late = closed-late;
+    }
 
 -- ---- plain bytes and entries
 

@@ -7,43 +7,49 @@ use native.Mathlib.Nat.{not-suc-le-zero}
 use native.Mathlib.Omega.{arith}
 use lib.Dec.{leb}
 use lib.ListN.{length, length-map}
+use Rattle.verdict.specs.Rules.{Verdict, given, refused}
+use Rattle.verdict.proofs.Laws.{least-breaks}
 use Rattle.wire.proofs.Splices.{splice-there}
+use Rattle.parts.specs.declared.IndexRow.{IndexRow}
+use Rattle.parts.specs.Rules.{headerRules}
 use Rattle.rows.specs.Rows.{stride, tableBytes}
 use Rattle.rows.proofs.Rows.{length-table}
 use Rattle.layout.specs.Layout.{Block, rowsFrom, endFrom}
 use Rattle.layout.proofs.Along.{length-rows-from}
-use Rattle.writer.specs.State.{begunWriter}
-use Rattle.writer_blocks.specs.Block.{blockFor}
-use Rattle.recovery.specs.Recovery.{reportOf}
-use Rattle.claims.specs.Disk.{Store, Begun, disk, finished, dictionariesInFull, some}
-use Rattle.claims.specs.Calls.{Call, Writing, newWriting, run, addings, addingsInFull}
-use Rattle.claims.specs.Demand3.{Recovery, Repair, Room, finishedAgain, Closes, Finishes, AtCut, Demand3}
-use Rattle.claims.proofs.Disk.{View, before, behind, view, finished-closed}
-use Rattle.claims.proofs.Recovers.{Reports, recovers, recover-gives, recover-leaves}
-use Rattle.claims.proofs.Repairs.{Gives, repair-gives, repair-leaves, Repairs, repairs}
-use Rattle.claims.proofs.Taken.{after, Taken, blocks-valid, blocks-few, taken-first}
-use Rattle.claims.proofs.Runs.{Started, none, begun, start}
-use Rattle.claims.proofs.InFull.{blocks-in-full, in-full-front}
-use Rattle.claims.proofs.Plain.{plainOf}
-use Rattle.claims.proofs.Again.{again-closed, again-closes}
+use Rattle.writer.specs.State.{begunWriter, newWriter}
+use Rattle.writer_blocks.specs.Block.{Adding, blockFor}
+use Rattle.recovery.specs.Recovery.{Report, recoverRules, callRules, reportOf, recoverOf, recoverOut}
+use Rattle.repair.specs.Repair.{repairOf, repairOut}
+use Rattle.disk.specs.Disk.{Store, disk, finished, addingOf, addingsInFull, dictionariesInFull, some, standing, stopFor}
+use Rattle.disk.proofs.Stores.{Begun}
+use Rattle.disk.proofs.Disk.{View, before, behind, view}
+use Rattle.disk.proofs.InFull.{in-full-front}
+use Rattle.disk.proofs.Recovers.{Reports, recovers, recover-gives, recover-leaves}
+use Rattle.disk.proofs.Repairs.{Gives, repair-gives, repair-leaves, Repairs, repairs}
+use Rattle.claims.specs.Calls.{Call, run, addings, newWriting, Fair}
+use Rattle.claims.specs.Demand3.{Recovery, Repair, Finishing, finishedBy, Finishes, RecoversFrom, RepairsWhole, AtCut, Demand3}
+use Rattle.claims.proofs.Taken.{Taken, blocks-valid, blocks-few, taken-first}
+use Rattle.claims.proofs.Runs.{Started, none, begun, start, addings-held}
+use Rattle.claims.proofs.Again.{finishing}
+use Rattle.claims.proofs.Closings.{file-is}
 
 -- ---- recovery and repair as calls
 
-recovery-by : (f : List ℕ) (bs : List Block) (ds : List (List ℕ)) → Reports f bs ds → (table : List ℕ) → length bs * stride ≤ length table
-    → Recovery f table bs (some ds)
-recovery-by f bs ds r table room =
+report-is : (x : Report) (rows : List IndexRow) (end : ℕ) (stop : Verdict) (whole : Bool) → x .rows ≡ rows → x .end ≡ end → x .stop ≡ stop → x .whole ≡ whole
+    → x ≡ record { rows = rows; end = end; stop = stop; whole = whole }
+report-is x rows end stop whole a b c d = rw (← a, ← b, ← c, ← d)
+
+recovery-by : (f : List ℕ) (bs : List Block) (part : ℕ) (ds : List (List ℕ)) → Reports f bs part ds → (table : List ℕ) → length bs * stride ≤ length table
+    → Recovery (recoverOf f (length table)) table (recoverOut f table) bs (stopFor (endFrom 64 bs) part) (some ds)
+recovery-by f bs part ds r table room =
     let l : length (tableBytes (rowsFrom 64 bs)) ≤ length table = omega (arith, length-table (rowsFrom 64 bs), length-rows-from 64 bs) in
     record {
-      report = reportOf f;
-      gives = recover-gives f bs ds r table l;
-      rows = r .rows;
-      end = r .end;
-      dictionary = r .whole;
-      leaves = recover-leaves f bs ds r table l;
+      gives = recover-gives f bs part ds r table l ∙ ap given (report-is (reportOf f) _ _ _ _ (r .rows) (r .end) (r .stop) (r .whole));
+      leaves = recover-leaves f bs part ds r table l;
     }
 
 repair-by : (f lent file : List ℕ) (kept : ℕ) → Gives f lent file → reportOf f .end ≡ kept → (out : List ℕ) → length file ≤ length out
-    → Repair f lent out file kept
+    → Repair (repairOf f lent (length out)) out (repairOut f lent out) file kept
 repair-by f lent file kept g e out room =
     let l = repair-leaves f lent file g out room in
     record {
@@ -58,9 +64,9 @@ cond-few : (t : Bool) (d : List ℕ) → length (cond t (d ∷ []) []) ≤ 1
 cond-few true d = omega arith
 cond-few false d = omega arith
 
-one-dictionary : (bs : List Block) (ss : List Store) (cut : ℕ) → View ss cut bs → length (dictionariesInFull cut ss) ≤ 1
-one-dictionary bs ss cut (before b) = rw (b .dictionaries) (omega arith)
-one-dictionary bs ss cut (behind d j e p q b) = rw (b .dictionaries) (cond-few (leb (4 + length d) j) d)
+one-dictionary : (xs : List Adding) (ss : List Store) (cut : ℕ) → View ss cut xs → length (dictionariesInFull cut ss) ≤ 1
+one-dictionary xs ss cut (before b) = rw (b .dictionaries) (omega arith)
+one-dictionary xs ss cut (behind d j e p q b) = rw (b .dictionaries) (cond-few (leb (4 + length d) j) d)
 
 the-one : (ds : List (List ℕ)) → length ds ≤ 1 → some ds ≡ true → (d : List ℕ) × (ds ≡ d ∷ [])
 unfolding some
@@ -75,64 +81,69 @@ not-one (d ∷ ds) e = absurd (let z : _≡_ {A = ℕ} 0 1 = cc in omega arith)
 
 -- ---- the demand, of calls that began a file
 
-module _ (h : Writing) (cs : List Call) (t : Taken begunWriter (addings h cs)) (b : Begun (map blockFor (addings h cs)) (run h cs)) (cut : ℕ)
-    (stands : 64 ≤ length (disk cut [] (run h cs))) where
-  reports : Reports (disk cut [] (run h cs)) (map blockFor (addingsInFull 0 cut h cs)) (dictionariesInFull cut (run h cs))
-  reports = rw (blocks-in-full 0 cut h cs) at (recovers (map blockFor (addings h cs)) (blocks-valid (addings h cs) t) (blocks-few (addings h cs) t) b cut stands)
+module _ (cs : List Call) (t : Taken begunWriter (addings newWriter cs)) (b : Begun (addings newWriter cs) (run newWriter cs)) (cut : ℕ)
+    (stands : 64 ≤ length (disk cut [] (run newWriter cs))) where
+  abbrev ss : List Store
+  ss = run newWriter cs
 
-  mends : Repairs (run h cs) cut
-  mends = repairs (map blockFor (addings h cs)) (blocks-valid (addings h cs) t) (blocks-few (addings h cs) t) b cut stands
+  abbrev xs : List Adding
+  xs = addingsInFull cut ss
 
-  taken-in-full : Taken begunWriter (addingsInFull 0 cut h cs)
+  abbrev f : List ℕ
+  f = disk cut [] ss
+
+  reports : Reports f (map blockFor xs) (standing 0 cut ss) (dictionariesInFull cut ss)
+  reports = recovers (addings newWriter cs) (blocks-valid (addings newWriter cs) t) (blocks-few (addings newWriter cs) t) b cut stands
+
+  mends : Repairs ss cut
+  mends = repairs (addings newWriter cs) (blocks-valid (addings newWriter cs) t) (blocks-few (addings newWriter cs) t) b cut stands
+
+  taken-in-full : Taken begunWriter xs
   taken-in-full =
-      let i = in-full-front 0 cut h cs in
-      taken-first begunWriter (addingsInFull 0 cut h cs) (i .later) (rw (i .all) at t)
+      let i = in-full-front addingOf 0 cut ss in
+      taken-first begunWriter xs (i .later) (rw (← addings-held cs newWriter, i .all) at t)
 
-  recovery-holds : (table : List ℕ) → length (addingsInFull 0 cut h cs) * stride ≤ length table
-      → Recovery (disk cut [] (run h cs)) table (map blockFor (addingsInFull 0 cut h cs)) (some (dictionariesInFull cut (run h cs)))
-  recovery-holds table room =
-      let xs = addingsInFull 0 cut h cs in
-      recovery-by (disk cut [] (run h cs)) (map blockFor xs) (dictionariesInFull cut (run h cs)) reports table (rw (length-map xs blockFor) room)
+  recovery-holds : (table : List ℕ) → length xs * stride ≤ length table → RecoversFrom ss cut (recoverOf f (length table)) table (recoverOut f table)
+  unfolding RecoversFrom
+  recovery-holds table room = recovery-by f (map blockFor xs) (standing 0 cut ss) (dictionariesInFull cut ss) reports table (rw (length-map xs blockFor) room)
 
-  own-holds : some (dictionariesInFull cut (run h cs)) ≡ true → (lent out : List ℕ) → length (finished (run h cs)) ≤ length out
-      → Repair (disk cut [] (run h cs)) lent out (finished (run h cs)) (endFrom 64 (map blockFor (addingsInFull 0 cut h cs)))
+  own-holds : some (dictionariesInFull cut ss) ≡ true → (lent out : List ℕ) → length (finished ss) ≤ length out
+      → RepairsWhole ss cut (repairOf f lent (length out)) out (repairOut f lent out)
+  unfolding RepairsWhole
   own-holds w lent out room =
-      let ds = dictionariesInFull cut (run h cs) in
-      let d = the-one ds (one-dictionary (map blockFor (addings h cs)) (run h cs) cut (view (map blockFor (addings h cs)) b cut stands)) w in
-      repair-by (disk cut [] (run h cs)) lent (finished (run h cs)) (endFrom 64 (map blockFor (addingsInFull 0 cut h cs)))
-      (mends .own lent (d .0) (d .1)) (reports .end) out room
+      let ds = dictionariesInFull cut ss in
+      let d = the-one ds (one-dictionary (addings newWriter cs) ss cut (view (addings newWriter cs) b cut stands)) w in
+      repair-by f lent (finished ss) (endFrom 64 (map blockFor xs)) (mends .own lent (d .0) (d .1)) (reports .end) out room
 
-  gives-again : (lent : List ℕ) → some (dictionariesInFull cut (run h cs)) ≡ false → 1 ≤ length lent → length lent < 256 ^ 4
-      → (d p table out plain : List ℕ) → Room (addingsInFull 0 cut h cs) lent table out
-      → Closes (newWriting d p table) (addingsInFull 0 cut h cs) plain lent out
-      → Gives (disk cut [] (run h cs)) lent (finishedAgain (newWriting d p table) (addingsInFull 0 cut h cs) plain lent out)
-  gives-again lent w q r d p table out plain room c =
-      let xs = addingsInFull 0 cut h cs in
-      let e = ap finished (again-closed xs taken-in-full d p table lent out room plain c) ∙ finished-closed (map blockFor xs) lent in
-      rw e (rw (blocks-in-full 0 cut h cs) at (mends .lent lent (not-one (dictionariesInFull cut (run h cs)) w) q r))
-
-  lent-holds : some (dictionariesInFull cut (run h cs)) ≡ false → (lent : List ℕ) → 1 ≤ length lent → length lent < 256 ^ 4
-      → Finishes (disk cut [] (run h cs)) (addingsInFull 0 cut h cs) lent
+  lent-holds : some (dictionariesInFull cut ss) ≡ false → (lent : List ℕ) → 1 ≤ length lent → length lent < 256 ^ 4 → Finishes f xs lent
   lent-holds w lent q r =
-      let xs = addingsInFull 0 cut h cs in
       record {
-        gives = λ d p table o plain room c out fits.
-            repair-by (disk cut [] (run h cs)) lent (finishedAgain (newWriting d p table) xs plain lent o) (endFrom 64 (map blockFor xs))
-            (gives-again lent w q r d p table o plain room c) (reports .end) out fits;
-        plain = plainOf (after begunWriter xs .given);
-        closes = λ d p table o room. again-closes xs taken-in-full d p table lent o room q r;
+        gives = λ c out fits.
+            repair-by f lent (finishedBy xs lent c) (endFrom 64 (map blockFor xs))
+            (rw (file-is (c .calls) (c .table) (c .plain) lent (c .out) (c .fair) (c .closes), c .adds)
+            (mends .lent lent (not-one (dictionariesInFull cut ss) w) q r))
+            (reports .end) out fits;
+        calls = finishing xs taken-in-full lent q r;
       }
 
-  at-cut : AtCut h cs cut
+  at-cut : AtCut ss cut
   at-cut = record { recovery = recovery-holds; own = own-holds; lent = lent-holds }
 
 -- ---- every list of calls: where nothing is stored no header stands
 
-by-start : (h : Writing) (cs : List Call) (cut : ℕ) → 64 ≤ length (disk cut [] (run h cs)) → Started (addings h cs) (run h cs) → AtCut h cs cut
+by-start : (cs : List Call) (cut : ℕ) → 64 ≤ length (disk cut [] (run newWriter cs)) → Started (addings newWriter cs) (run newWriter cs)
+    → AtCut (run newWriter cs) cut
 unfolding disk
-by-start h cs cut stands (none e) = absurd (not-suc-le-zero (rw e at stands))
-by-start h cs cut stands (begun t b) = at-cut h cs t b cut stands
+by-start cs cut stands (none e) = absurd (not-suc-le-zero (rw e at stands))
+by-start cs cut stands (begun t b) = at-cut cs t b cut stands
+
+too-short : (f : List ℕ) (room : ℕ) → length f < 64 → recoverOf f room ≡ refused 1 (length f)
+unfolding recoverOf callRules recoverRules headerRules
+too-short f room h = rw (least-breaks 1 (length f) _ (length f) 64 h)
 
 pub demand-3 : Demand3
-unfolding Demand3
-demand-3 d p table cs typed cut stands = by-start (newWriting d p table) cs cut stands (start cs typed (newWriting d p table) refl)
+demand-3 =
+    record {
+      at-cut = λ cs f cut stands. by-start cs cut stands (start cs newWriting f refl);
+      short = λ cs cut room h. too-short (disk cut [] (run newWriter cs)) room h;
+    }

@@ -9,9 +9,9 @@ use lib.ListN.{length, take, drop, length-append, length-take}
 use lib.Seq.{take-at, length-take-le}
 use borrow.Author.Tests.{ltb-false, leb-true, le-leb}
 use Rattle.verdict.specs.Rules.{holds, Verdict, sound, broken, firstBroken, given, Held, verdictIn, ruled}
-use Rattle.verdict.proofs.Laws.{sound-held, held-sound, held-parts, then-sound, first-ruled}
+use Rattle.verdict.proofs.Laws.{sound-held, held-sound, held-parts, then-sound, first-ruled, parts-sound, settle-verdict}
 use Rattle.wire.specs.Wire.{Bytes, le, splice}
-use Rattle.wire.proofs.Splices.{splice-parts}
+use Rattle.wire.proofs.Splices.{splice-front}
 use Rattle.parts.specs.declared.time.Epoch.{Epoch}
 use Rattle.varint.specs.Varint.{encode}
 use Rattle.cursor.specs.declared.Field.{Field}
@@ -28,12 +28,12 @@ use Rattle.packing.specs.Rules.{largest, textRules, fieldRules, sizedRules, pac
 use Rattle.packing.specs.Rules as packing
 use Rattle.packing.specs.Table.{recordsIn, fieldsOf}
 use Rattle.packing.proofs.Records.{length-fields, fields-ranged}
-use Rattle.packing.proofs.Stores.{size-is}
+use Rattle.packing.proofs.Stores.{entry-length}
 use Rattle.packing.proofs.Answers.{all-within}
 use Rattle.packing.proofs.RoundTrip.{reads-behind, first-reads}
 use Rattle.lookup.specs.Lookup.{Found, numbered, missing}
 use Rattle.writer.specs.declared.state.Writer.{Writer}
-use Rattle.writer.specs.State.{begunWriter, isNew, isBegun, isOpen, begunRules}
+use Rattle.writer.specs.State.{begunWriter, newWriter, isNew, isBegun, isOpen, begunRules}
 use Rattle.writer.specs.Begin.{beginRules, beginOf}
 use Rattle.writer_names.specs.Name.{heldAs, nameRules, withName, namingOf}
 use Rattle.writer_names.specs.Name as writer
@@ -44,31 +44,14 @@ use Rattle.writer.proofs.Turns.{turn-begun, bounded}
 use Rattle.writer_entries.proofs.Entries.{start-open, earliest-open, start-new, earliest-new, time-from}
 use Rattle.writer_blocks.proofs.Blocks.{take-sound, room-sound}
 use Rattle.writer.proofs.Closes.{close-good}
-use Rattle.claims.specs.Calls.{Call, begin, name, entry, block, close, Writing, newWriting, next, accepted, last}
-use Rattle.claims.specs.Built.{Ranges, AllRanges, openAfter, openBehind, entriesOpen, openAdding, Addable, HoldsEntries, EntriesBuilt}
-use Rattle.claims.proofs.Calls.{parts-sound, block-accepted}
-use Rattle.claims.proofs.Names.{Bounds, bounds-new, bounds-last, begun-not-new, begin-new}
+use Rattle.claims.specs.Calls.{Call, begin, name, entry, block, close, verdictFor, next}
+use Rattle.claims.specs.Calls.{Writing, newWriting, payloadAfter, after, behind, Typed, Agrees, Fair}
+use Rattle.claims.specs.Built.{openAfter, openBehind, entriesOpen, builtPlain, openAdding, Addable, HoldsEntries, EntriesBuilt}
+use Rattle.claims.proofs.Names.{Bounds, bounds-behind, begun-not-new, begin-new}
 
 -- ---- an entry that packing accepts: the room that it takes
 
-field-length : (t : List ℕ) (f : Field) → Within (length t) (f .value) → length (packField (fieldIn t f)) ≡ fieldSize f
-unfolding packField fieldIn fieldSize le
-field-length t f h =
-    let s = size-is t (f .value) h in
-    rw s (omega (arith, length-append (encode (sizeOf (f .value))) (bytesOf (valIn t (f .value)))))
-
-fields-length : (t : List ℕ) (fs : List Field) → AllWithin (length t) fs → length (packFields (fieldsIn t fs)) ≡ fieldsSize fs
-unfolding packFields fieldsIn fieldsSize AllWithin
-fields-length t [] h = refl
-fields-length t (f ∷ fs) h =
-    omega (arith, length-append (packField (fieldIn t f)) (packFields (fieldsIn t fs)), field-length t f (h .0 .0), fields-length t fs (h .1))
-
-entry-length : (d : ℕ) (t : List ℕ) (fs : List Field) → AllWithin (length t) fs → length (entryBytes d (fieldsIn t fs)) ≡ entrySize d fs
-unfolding entryBytes entrySize
-entry-length d t fs h =
-    omega (arith, length-append (encode d) (length (fieldsIn t fs) ∷ packFields (fieldsIn t fs)), fields-length t fs h)
-
-size-some : (d : ℕ) (fs : List Field) → 1 ≤ entrySize d fs
+pub size-some : (d : ℕ) (fs : List Field) → 1 ≤ entrySize d fs
 unfolding entrySize
 size-some d fs = omega arith
 
@@ -98,13 +81,6 @@ module _ (room at d names : ℕ) (t : List ℕ) (count : ℕ) (fs : List Field) 
       let m : count ≤ 255 = leb-true count 255 (h .1 .0) in
       held-sound (packRules room at d names t (length fs) fs) (h .0, (le-leb (length fs) 255 (omega arith), h .1 .1))
 
--- bytes laid behind a front that ends at n
-laid-behind : (p x : List ℕ) (n : ℕ) → n + length x ≤ length p → take (n + length x) (splice p n x) ≡ take n p ++ x
-laid-behind p x n h =
-    let l : length (take n p) ≡ n = length-take-le n p (omega arith) in
-    ap (take (n + length x)) (splice-parts p x n h ∙ sym (append-assoc (take n p) x (drop (n + length x) p)))
-    ∙ take-at (take n p ++ x) (drop (n + length x) p) (n + length x) (omega (arith, length-append (take n p) x))
-
 -- ---- the state and the lent plain bytes of entries accepted
 
 pub record Opened (w : Writer) (p : List ℕ) (es : List Entry) : Type 0 where
@@ -120,7 +96,7 @@ no-first : (es : List Entry) → es ≡ [] → (e : Entry) (rest : List Entry) �
 no-first es n e rest q = let z : _≡_ {A = ℕ} 0 1 = cc in omega arith
 
 -- no block is open
-opened-none : (w : Writer) (p : List ℕ) (es : List Entry) → w .pending .plain ≡ 0 → es ≡ [] → Opened w p es
+pub opened-none : (w : Writer) (p : List ℕ) (es : List Entry) → w .pending .plain ≡ 0 → es ≡ [] → Opened w p es
 opened-none w p es z n =
     record {
       shut = λ e. n;
@@ -130,6 +106,19 @@ opened-none w p es z n =
       turn = λ h. absurd (omega arith);
       after = λ h. absurd (omega arith);
       number = λ h. absurd (omega arith);
+    }
+
+-- in another buffer with the same front
+pub opened-lent : (w : Writer) (p q : List ℕ) (es : List Entry) → take (w .pending .plain) q ≡ take (w .pending .plain) p → Opened w p es → Opened w q es
+opened-lent w p q es a g =
+    record {
+      shut = g .shut;
+      reads = λ h. rw a (g .reads h);
+      start = g .start;
+      last = g .last;
+      turn = g .turn;
+      after = g .after;
+      number = g .number;
     }
 
 -- the first of entries with one more behind them
@@ -154,7 +143,7 @@ module _ (w : Writer) (p : List ℕ) (es : List Entry) (g : Opened w p es) (t : 
   plain-after =
       let l = pack-length (length p) (w .pending .plain) (deltaFor w t) (w .names) text count fs e in
       let r = pack-room (length p) (w .pending .plain) (deltaFor w t) (w .names) text count fs e in
-      ap (λ (n : ℕ). take (w .pending .plain + n) (splice p (w .pending .plain) more)) (sym l) ∙ laid-behind p more (w .pending .plain) (omega arith)
+      ap (λ (n : ℕ). take (w .pending .plain + n) (splice p (w .pending .plain) more)) (sym l) ∙ splice-front p more (w .pending .plain) (omega arith)
 
   packs : firstBroken (packRules (length p) (w .pending .plain) (t .0 - startFor w t .0) (w .names) text (length fs) fs) ≡ sound
   unfolding deltaFor
@@ -252,7 +241,7 @@ new-shut w p es g n =
       | no h ↦ omega arith
     ]
 
-not-open : (w : Writer) → isOpen w ≡ false → w .pending .plain ≡ 0
+pub not-open : (w : Writer) → isOpen w ≡ false → w .pending .plain ≡ 0
 unfolding isOpen
 not-open w e = let h = ltb-false 0 (w .pending .plain) e in omega arith
 
@@ -266,56 +255,60 @@ entry-parts w t text count fs room e =
     (p .0, q .0, q .1)
 
 module _ (h : Writing) (es : List Entry) (g : Opened (h .writer) (h .payload) es) where
-  abbrev After : Call → Type 0
-  After c = Opened (next h c .writer) (next h c .payload) (openAfter es h c)
+  abbrev w : Writer
+  w = h .writer
 
-  begin-after : (out : List ℕ) (v : Verdict) → firstBroken (beginRules (h .writer) (length out)) ≡ v → After (begin out)
-  unfolding next openAfter beginOf
-  begin-after out sound e = rw e (opened-none begunWriter (h .payload) es refl (g .shut (new-shut (h .writer) (h .payload) es g (begin-new (h .writer) (length out) e))))
+  abbrev After : Call → Type 0
+  After c = Opened (next w c) (payloadAfter h c) (openAfter es w c)
+
+  begin-after : (out : List ℕ) (v : Verdict) → firstBroken (beginRules w (length out)) ≡ v → After (begin out)
+  unfolding next payloadAfter openAfter beginOf
+  begin-after out sound e = rw e (opened-none begunWriter (h .payload) es refl (g .shut (new-shut w (h .payload) es g (begin-new w (length out) e))))
   begin-after out (broken n p) e = rw e g
 
-  name-after : (n : List ℕ) (v : Verdict) → firstBroken (nameRules (h .writer) (h .dictionary) n) ≡ v → After (name n)
-  unfolding next openAfter writer.nameOf
-  name-after n sound e = rw e (name-kept (h .writer) n (h .payload) es (heldAs (h .writer) (h .dictionary) n) g)
-  name-after n (broken m p) e = rw e g
+  name-after : (d n : List ℕ) (v : Verdict) → firstBroken (nameRules w d n) ≡ v → After (name d n)
+  unfolding next payloadAfter openAfter writer.nameOf
+  name-after d n sound e = rw e (name-kept w n (h .payload) es (heldAs w d n) g)
+  name-after d n (broken m p) e = rw e g
 
-  entry-after : (t : Epoch) (text table : List ℕ) → (t .0 < 2 ^ 64) × Bytes table → (v : Verdict)
-      → firstBroken (entryRules (h .writer) t text (recordsIn table) (fieldsOf table) (length (h .payload))) ≡ v → After (entry t text table)
-  unfolding next openAfter entryOf entryOut
-  entry-after t text table r sound e =
-      let p = entry-parts (h .writer) t text (recordsIn table) (fieldsOf table) (length (h .payload)) e in
-      let l : length (fieldsOf table) ≤ recordsIn table = omega (arith, length-fields table) in
-      rw e (opened-more (h .writer) (h .payload) es g t text (recordsIn table) (fieldsOf table) (r .0) (fields-ranged table (r .1)) l (p .0) (p .1) (p .2))
-  entry-after t text table r (broken n p) e = rw e g
+  entry-after : (p : List ℕ) (t : Epoch) (text fields : List ℕ) → Typed (entry p t text fields) → Agrees h (entry p t text fields) → (v : Verdict)
+      → firstBroken (entryRules w t text (recordsIn fields) (fieldsOf fields) (length p)) ≡ v → After (entry p t text fields)
+  unfolding next payloadAfter openAfter entryOf entryOut
+  entry-after p t text fields r a sound e =
+      let q = entry-parts w t text (recordsIn fields) (fieldsOf fields) (length p) e in
+      let l : length (fieldsOf fields) ≤ recordsIn fields = omega (arith, length-fields fields) in
+      rw e
+      (opened-more w p es (opened-lent w (h .payload) p es a g) t text (recordsIn fields) (fieldsOf fields) (r .0) (fields-ranged fields (r .1)) l
+      (q .0) (q .1) (q .2))
+  entry-after p t text fields r a (broken n q) e = rw e (opened-lent w (h .payload) p es a g)
 
-  block-after : (a : Adding) (out : List ℕ) (v : Verdict) → firstBroken (blockRules (h .writer) a (length (h .table)) (length out)) ≡ v → After (block a out)
-  unfolding next openAfter blockOf withBlock
-  block-after a out sound e = rw e (opened-none (withBlock (h .writer) a) (h .payload) [] refl refl)
-  block-after a out (broken n p) e = rw e g
+  block-after : (t : List ℕ) (a : Adding) (out : List ℕ) (v : Verdict) → firstBroken (blockRules w a (length t) (length out)) ≡ v → After (block t a out)
+  unfolding next payloadAfter openAfter blockOf withBlock
+  block-after t a out sound e = rw e (opened-none (withBlock w a) (h .payload) [] refl refl)
+  block-after t a out (broken n p) e = rw e g
 
-  close-after : (plain stored out : List ℕ) (v : Verdict) → firstBroken (closeRules (h .writer) (h .table) plain stored (length out)) ≡ v
-      → After (close plain stored out)
-  unfolding next openAfter closeOf closed
-  close-after plain stored out sound e =
-      let z = not-open (h .writer) (close-good (h .writer) (h .table) plain stored (length out) e .shut) in
-      rw e (opened-none (closed (h .writer)) (h .payload) es z (g .shut z))
-  close-after plain stored out (broken n p) e = rw e g
+  close-after : (t plain stored out : List ℕ) (v : Verdict) → firstBroken (closeRules w t plain stored (length out)) ≡ v → After (close t plain stored out)
+  unfolding next payloadAfter openAfter closeOf closed
+  close-after t plain stored out sound e =
+      let z = not-open w (close-good w t plain stored (length out) e .shut) in
+      rw e (opened-none (closed w) (h .payload) es z (g .shut z))
+  close-after t plain stored out (broken n p) e = rw e g
 
-  opened-next : (c : Call) → Ranges c → After c
-  opened-next (begin out) r = begin-after out (firstBroken (beginRules (h .writer) (length out))) refl
-  opened-next (name n) r = name-after n (firstBroken (nameRules (h .writer) (h .dictionary) n)) refl
-  opened-next (entry t text table) r =
-      entry-after t text table r (firstBroken (entryRules (h .writer) t text (recordsIn table) (fieldsOf table) (length (h .payload)))) refl
-  opened-next (block a out) r = block-after a out (firstBroken (blockRules (h .writer) a (length (h .table)) (length out))) refl
-  opened-next (close plain stored out) r = close-after plain stored out (firstBroken (closeRules (h .writer) (h .table) plain stored (length out))) refl
+  pub opened-next : (c : Call) → Typed c → Agrees h c → After c
+  opened-next (begin out) r a = begin-after out (firstBroken (beginRules w (length out))) refl
+  opened-next (name d n) r a = name-after d n (firstBroken (nameRules w d n)) refl
+  opened-next (entry p t text fields) r a =
+      entry-after p t text fields r a (firstBroken (entryRules w t text (recordsIn fields) (fieldsOf fields) (length p))) refl
+  opened-next (block t b out) r a = block-after t b out (firstBroken (blockRules w b (length t) (length out))) refl
+  opened-next (close t plain stored out) r a = close-after t plain stored out (firstBroken (closeRules w t plain stored (length out))) refl
 
 -- ---- every list of calls
 
-opened-last : (cs : List Call) → AllRanges cs → (h : Writing) (es : List Entry) → Opened (h .writer) (h .payload) es
-    → Opened (last h cs .writer) (last h cs .payload) (openBehind es h cs)
-unfolding last openBehind
-opened-last [] r h es g = g
-opened-last (c ∷ cs) r h es g = opened-last cs (r .1) (next h c) (openAfter es h c) (opened-next h es g c (r .0))
+opened-behind : (cs : List Call) (h : Writing) (es : List Entry) → Fair h cs → Opened (h .writer) (h .payload) es
+    → Opened (behind h cs .writer) (behind h cs .payload) (openBehind es (h .writer) cs)
+unfolding behind openBehind Fair
+opened-behind [] h es f g = g
+opened-behind (c ∷ cs) h es f g = opened-behind cs (after h c) (openAfter es (h .writer) c) (f .1) (opened-next h es g c (f .0 .0) (f .0 .1))
 
 module _ (k : Writing) (es : List Entry) (g : Opened (k .writer) (k .payload) es) (b : Bounds (k .writer)) (h : 1 ≤ k .writer .pending .plain) where
   -- an adding of the open block
@@ -325,31 +318,31 @@ module _ (k : Writing) (es : List Entry) (g : Opened (k .writer) (k .payload) es
   unfolding readBy blockFor
   adding-reads stored = rw (g .reads h) (refl, refl, g .last h)
 
-  adding-takes : (stored out : List ℕ) → Addable k stored out → firstBroken (takeRules (k .writer) (openAdding k stored)) ≡ sound
-  adding-takes stored out r =
+  adding-takes : (t stored out : List ℕ) → Addable (k .writer) t stored out → firstBroken (takeRules (k .writer) (openAdding k stored)) ≡ sound
+  adding-takes t stored out r =
       let w = k .writer in
       let d = bounded w (b (g .turn h)) in
-      let l : length (take (w .pending .plain) (k .payload)) ≤ largest = omega (arith, length-take (w .pending .plain) (k .payload), d .plain) in
+      let l : length (builtPlain k) ≤ largest = omega (arith, length-take (w .pending .plain) (k .payload), d .plain) in
       take-sound w (openAdding k stored) (g .after h) (g .number h) (d .names) (r .fits) l (r .names)
 
-  adding-taken : (stored out : List ℕ) → Addable k stored out → accepted k (block (openAdding k stored) out) ≡ openAdding k stored ∷ []
-  unfolding blockRules
-  adding-taken stored out r =
+  adding-taken : (t stored out : List ℕ) → Addable (k .writer) t stored out → verdictFor (k .writer) (block t (openAdding k stored) out) ≡ sound
+  unfolding verdictFor blockOf blockRules
+  adding-taken t stored out r =
       let w = k .writer in
       let a = openAdding k stored in
       let v = verdictIn (readBy a) in
-      let room = roomRules w stored (length (k .table)) (length out) in
-      block-accepted k a out
-      (then-sound (begunRules w) (takeRules w a ++ (ruled v ++ room)) (b (g .turn h))
-      ∙ then-sound (takeRules w a) (ruled v ++ room) (adding-takes stored out r)
+      let room = roomRules w stored (length t) (length out) in
+      settle-verdict (firstBroken (blockRules w a (length t) (length out))) _
+      ∙ then-sound (begunRules w) (takeRules w a ++ (ruled v ++ room)) (b (g .turn h))
+      ∙ then-sound (takeRules w a) (ruled v ++ room) (adding-takes t stored out r)
       ∙ then-sound (ruled v) room (first-ruled v ∙ ap verdictIn (adding-reads stored .0))
-      ∙ room-sound w stored (length (k .table)) (length out) (r .rows) (r .room))
+      ∙ room-sound w stored (length t) (length out) (r .rows) (r .room)
 
 holds-entries : (k : Writing) (es : List Entry) → Opened (k .writer) (k .payload) es → Bounds (k .writer) → HoldsEntries k es
 holds-entries k es g b =
     record {
       shut = g .shut;
-      some = λ h. some-read (take (k .writer .pending .plain) (k .payload)) (k .writer .pending .start .0) (k .writer .names) es (g .reads h);
+      some = λ h. some-read (builtPlain k) (k .writer .pending .start .0) (k .writer .names) es (g .reads h);
       reads = g .reads;
       start = g .start;
       last = g .last;
@@ -359,6 +352,5 @@ holds-entries k es g b =
 
 pub entries-built : EntriesBuilt
 unfolding EntriesBuilt
-entries-built d p table cs r =
-    let h = newWriting d p table in
-    holds-entries (last h cs) (entriesOpen h cs) (opened-last cs r h [] (opened-none (h .writer) p [] refl refl)) (bounds-last cs h (bounds-new d p table))
+entries-built cs f =
+    holds-entries (behind newWriting cs) (entriesOpen cs) (opened-behind cs newWriting [] f (opened-none newWriter [] [] refl refl)) (bounds-behind cs)

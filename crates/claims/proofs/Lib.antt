@@ -1,23 +1,20 @@
--- The claims: the worked cases, what recovery and repair find on a disk that was cut, that a finished file opens, demands 2 and 3, and what calls leave in the lent buffers.
-pub mod Worked
-pub mod Blocks
-pub mod Full
-pub mod Scans
-pub mod Disk
-pub mod Dictionary
-pub mod Recovers
-pub mod Opens
-pub mod Readings
-pub mod Repairs
+-- The claims, proved: laws of one call and of lists of calls, what they leave in the lent buffers, what a closing stores, demands 1 to 3,
+-- and the worked cases.
 pub mod Calls
+pub mod Demand1
 pub mod Taken
 pub mod Runs
-pub mod InFull
-pub mod Again
 pub mod Listed
 pub mod Plain
-pub mod Demand3
-pub mod Demand2
 pub mod Names
 pub mod Entries
-pub mod Examples
+pub mod Steps
+pub mod Lookups
+pub mod Again
+pub mod Closings
+pub mod Demand2
+pub mod Uses
+pub mod Rewritten
+pub mod Records
+pub mod Demand3
+pub mod Worked

@@ -9,7 +9,7 @@ use lib.ListN.{length, getD, take, drop, length-append, take-append-drop}
 use lib.Seq.{take-at, drop-at, length-take-le, drop-append-le, getD-append-seam}
 use borrow.Author.Tests.{leb-true}
 use Rattle.verdict.specs.Rules.{holds, Verdict, sound, broken, firstBroken, Outcome, given, refused, verdictIn}
-use Rattle.verdict.proofs.Laws.{first-none, sound-held, settle-given, flag-holds, least-holds, most-holds, then-sound}
+use Rattle.verdict.proofs.Laws.{first-none, sound-held, settle-given, parts-sound, flag-holds, least-holds, most-holds, then-sound}
 use Rattle.wire.specs.Wire.{le, leAt, splice, same}
 use Rattle.wire.proofs.Numbers.{length-le}
 use Rattle.wire.proofs.Splices.{length-splice, splice-parts}
@@ -22,7 +22,7 @@ use Rattle.lookup.specs.Lookup.{Found, numbered, missing, seekFrom}
 use Rattle.writer.specs.declared.state.Turn.{Turn}
 use Rattle.writer.specs.declared.state.Turn.the-variants as turn
 use Rattle.writer.specs.declared.state.Writer.{Writer}
-use Rattle.writer.specs.State.{begunWriter, isNew, isBegun, begunRules}
+use Rattle.writer.specs.State.{begunWriter, newWriter, isNew, isBegun, begunRules}
 use Rattle.writer.specs.Begin.{Step, beginRules, beginOf}
 use Rattle.writer_names.specs.Name.{Naming, heldAs, newRules, unlessHeld, nameRules, withName, namingOf, nameBytes, appended, namesAfter, nameOut}
 use Rattle.writer_names.specs.Name as writer
@@ -34,9 +34,9 @@ use Rattle.writer_names.proofs.Names.{name-held, name-bounded}
 use Rattle.writer.proofs.Beginning.{begin-bounded}
 use Rattle.writer_entries.proofs.Entries.{entry-bounded}
 use Rattle.writer_blocks.proofs.Blocks.{block-bounded}
-use Rattle.claims.specs.Calls.{Call, begin, name, entry, block, close, Writing, newWriting, ifGiven, next, last}
-use Rattle.claims.specs.Built.{among, heldAfter, heldBehind, namesHeld, namesBytes, plainNames, Closable, HoldsNames, NamesBuilt}
-use Rattle.claims.proofs.Calls.{parts-sound}
+use Rattle.claims.specs.Calls.{Call, begin, name, entry, block, close, ifGiven, verdictFor, next, last}
+use Rattle.claims.specs.Calls.{Writing, newWriting, dictionaryAfter, after, behind, Agrees, Fair}
+use Rattle.claims.specs.Built.{among, heldAfter, heldBehind, namesHeld, namesBytes, plainNames, builtNames, Closable, HoldsNames, NamesBuilt}
 use Rattle.claims.proofs.Listed.{Right, right-none, right-more, length-name, names-more, name-there, number-one, plain-count, plain-sound, plain-accepted}
 
 -- ---- a search among the names
@@ -89,38 +89,42 @@ bounds-closed : (w : Writer) → Bounds (closed w)
 unfolding closed isBegun
 bounds-closed w e = let z : _≡_ {A = ℕ} 0 1 = cc in absurd (omega arith)
 
-bounds-next : (h : Writing) (c : Call) → Bounds (h .writer) → Bounds (next h c .writer)
+bounds-next : (w : Writer) (c : Call) → Bounds w → Bounds (next w c)
 unfolding next closeOf
-bounds-next h (begin out) b = go (beginOf (h .writer) (length out)) refl
+bounds-next w (begin out) b = go (beginOf w (length out)) refl
   where
-    go : (o : Outcome Step) → beginOf (h .writer) (length out) ≡ o → Bounds (ifGiven o (λ s. s .next) (h .writer))
-    go (given s) e = λ t. begin-bounded (h .writer) (length out) s e
+    go : (o : Outcome Step) → beginOf w (length out) ≡ o → Bounds (ifGiven o (λ s. s .next) w)
+    go (given s) e = λ t. begin-bounded w (length out) s e
     go (refused n p) e = b
-bounds-next h (name bytes) b = go (writer.nameOf (h .writer) (h .dictionary) bytes) refl
+bounds-next w (name d bytes) b = go (writer.nameOf w d bytes) refl
   where
-    go : (o : Outcome Naming) → writer.nameOf (h .writer) (h .dictionary) bytes ≡ o → Bounds (ifGiven o (λ s. s .next) (h .writer))
-    go (given s) e = λ t. name-bounded (h .writer) (h .dictionary) bytes s e
+    go : (o : Outcome Naming) → writer.nameOf w d bytes ≡ o → Bounds (ifGiven o (λ s. s .next) w)
+    go (given s) e = λ t. name-bounded w d bytes s e
     go (refused n p) e = b
-bounds-next h (entry u text table) b = go (entryOf (h .writer) u text (recordsIn table) (fieldsOf table) (length (h .payload))) refl
+bounds-next w (entry p u text fields) b = go (entryOf w u text (recordsIn fields) (fieldsOf fields) (length p)) refl
   where
-    go : (o : Outcome Writer) → entryOf (h .writer) u text (recordsIn table) (fieldsOf table) (length (h .payload)) ≡ o → Bounds (ifGiven o (λ s. s) (h .writer))
-    go (given s) e = λ t. entry-bounded (h .writer) u text (recordsIn table) (fieldsOf table) (length (h .payload)) s e
+    go : (o : Outcome Writer) → entryOf w u text (recordsIn fields) (fieldsOf fields) (length p) ≡ o → Bounds (ifGiven o (λ s. s) w)
+    go (given s) e = λ t. entry-bounded w u text (recordsIn fields) (fieldsOf fields) (length p) s e
+    go (refused n q) e = b
+bounds-next w (block t a out) b = go (blockOf w a (length t) (length out)) refl
+  where
+    go : (o : Outcome Step) → blockOf w a (length t) (length out) ≡ o → Bounds (ifGiven o (λ s. s .next) w)
+    go (given s) e = λ u. block-bounded w a (length t) (length out) s e
     go (refused n p) e = b
-bounds-next h (block a out) b = go (blockOf (h .writer) a (length (h .table)) (length out)) refl
+bounds-next w (close t plain stored out) b = go (firstBroken (closeRules w t plain stored (length out))) refl
   where
-    go : (o : Outcome Step) → blockOf (h .writer) a (length (h .table)) (length out) ≡ o → Bounds (ifGiven o (λ s. s .next) (h .writer))
-    go (given s) e = λ t. block-bounded (h .writer) a (length (h .table)) (length out) s e
-    go (refused n p) e = b
-bounds-next h (close plain stored out) b = go (firstBroken (closeRules (h .writer) (h .table) plain stored (length out))) refl
-  where
-    go : (v : Verdict) → firstBroken (closeRules (h .writer) (h .table) plain stored (length out)) ≡ v → Bounds (next h (close plain stored out) .writer)
-    go sound e = rw e (bounds-closed (h .writer))
+    go : (v : Verdict) → firstBroken (closeRules w t plain stored (length out)) ≡ v → Bounds (next w (close t plain stored out))
+    go sound e = rw e (bounds-closed w)
     go (broken n p) e = rw e b
 
-pub bounds-last : (cs : List Call) (h : Writing) → Bounds (h .writer) → Bounds (last h cs .writer)
+pub bounds-last : (cs : List Call) (w : Writer) → Bounds w → Bounds (last w cs)
 unfolding last
-bounds-last [] h b = b
-bounds-last (c ∷ cs) h b = bounds-last cs (next h c) (bounds-next h c b)
+bounds-last [] w b = b
+bounds-last (c ∷ cs) w b = bounds-last cs (next w c) (bounds-next w c b)
+
+pub bounds-new : Bounds newWriter
+unfolding isBegun
+bounds-new e = let z : _≡_ {A = ℕ} 0 1 = cc in absurd (omega arith)
 
 -- ---- the state and the lent dictionary of names held
 
@@ -130,6 +134,12 @@ pub record Holding (w : Writer) (d : List ℕ) (ns : List (List ℕ)) : Type 0 w
   pub whole : 1 ≤ length ns → take (w .dictionary) d ≡ plainNames ns
   pub right : Right ns
   pub new : isNew (w .turn) ≡ true → ns ≡ []
+
+-- in another dictionary with the same front
+pub holding-lent : (w : Writer) (d e : List ℕ) (ns : List (List ℕ)) → (1 ≤ w .names → take (w .dictionary) e ≡ take (w .dictionary) d)
+    → Holding w d ns → Holding w e ns
+holding-lent w d e ns a g =
+    record { count = g .count; size = g .size; whole = λ s. a (rw (g .count) s) ∙ g .whole s; right = g .right; new = g .new }
 
 -- the names stand behind the count, whatever stands there
 behind-count : (ns : List (List ℕ)) (d : List ℕ) (n : ℕ) → n ≡ 4 + length (namesBytes 0 ns) → (1 ≤ length ns → take n d ≡ plainNames ns)
@@ -279,89 +289,95 @@ unfolding nameRules
 name-parts w d n e = parts-sound (begunRules w) _ e
 
 module _ (h : Writing) (ns : List (List ℕ)) (g : Holding (h .writer) (h .dictionary) ns) where
-  abbrev After : Call → Type 0
-  After c = Holding (next h c .writer) (next h c .dictionary) (heldAfter ns h c)
+  abbrev w : Writer
+  w = h .writer
 
-  begin-after : (out : List ℕ) (v : Verdict) → firstBroken (beginRules (h .writer) (length out)) ≡ v → After (begin out)
-  unfolding next heldAfter beginOf
-  begin-after out sound e = rw e (begun-holds (h .writer) (h .dictionary) ns (begin-new (h .writer) (length out) e) g)
+  abbrev After : Call → Type 0
+  After c = Holding (next w c) (dictionaryAfter h c) (heldAfter ns w c)
+
+  begin-after : (out : List ℕ) (v : Verdict) → firstBroken (beginRules w (length out)) ≡ v → After (begin out)
+  unfolding next dictionaryAfter heldAfter beginOf
+  begin-after out sound e = rw e (begun-holds w (h .dictionary) ns (begin-new w (length out) e) g)
   begin-after out (broken n p) e = rw e g
 
-  name-after : (n : List ℕ) (v : Verdict) → firstBroken (nameRules (h .writer) (h .dictionary) n) ≡ v → After (name n)
-  unfolding next heldAfter writer.nameOf nameOut
-  name-after n sound e =
-      let p = name-parts (h .writer) (h .dictionary) n e in
-      rw e (name-holds (h .writer) (h .dictionary) ns g n (p .0) (heldAs (h .writer) (h .dictionary) n) refl (p .1))
-  name-after n (broken m p) e = rw e g
+  name-after : (d n : List ℕ) → Agrees h (name d n) → (v : Verdict) → firstBroken (nameRules w d n) ≡ v → After (name d n)
+  unfolding next dictionaryAfter heldAfter writer.nameOf nameOut
+  name-after d n a sound e =
+      let p = name-parts w d n e in
+      rw e (name-holds w d ns (holding-lent w (h .dictionary) d ns a g) n (p .0) (heldAs w d n) refl (p .1))
+  name-after d n a (broken m p) e = rw e (holding-lent w (h .dictionary) d ns a g)
 
-  holding-next : (c : Call) → After c
-  unfolding next heldAfter entryOf withEntry blockOf withBlock closeOf closed
-  holding-next (begin out) = begin-after out (firstBroken (beginRules (h .writer) (length out))) refl
-  holding-next (name n) = name-after n (firstBroken (nameRules (h .writer) (h .dictionary) n)) refl
-  holding-next (entry t text table) = go (firstBroken (entryRules (h .writer) t text (recordsIn table) (fieldsOf table) (length (h .payload)))) refl
+  pub holding-next : (c : Call) → Agrees h c → After c
+  unfolding next dictionaryAfter heldAfter entryOf withEntry blockOf withBlock closeOf closed
+  holding-next (begin out) a = begin-after out (firstBroken (beginRules w (length out))) refl
+  holding-next (name d n) a = name-after d n a (firstBroken (nameRules w d n)) refl
+  holding-next (entry p t text fields) a = go (firstBroken (entryRules w t text (recordsIn fields) (fieldsOf fields) (length p))) refl
     where
-      go : (v : Verdict) → firstBroken (entryRules (h .writer) t text (recordsIn table) (fieldsOf table) (length (h .payload))) ≡ v → After (entry t text table)
-      go sound e = rw e (kept (h .writer) (withEntry (h .writer) t (fieldsOf table)) (h .dictionary) ns refl refl (λ x. x) g)
+      go : (v : Verdict) → firstBroken (entryRules w t text (recordsIn fields) (fieldsOf fields) (length p)) ≡ v → After (entry p t text fields)
+      go sound e = rw e (kept w (withEntry w t (fieldsOf fields)) (h .dictionary) ns refl refl (λ x. x) g)
+      go (broken n q) e = rw e g
+  holding-next (block t b out) a = go (firstBroken (blockRules w b (length t) (length out))) refl
+    where
+      go : (v : Verdict) → firstBroken (blockRules w b (length t) (length out)) ≡ v → After (block t b out)
+      go sound e = rw e (kept w (withBlock w b) (h .dictionary) ns refl refl (λ x. x) g)
       go (broken n p) e = rw e g
-  holding-next (block a out) = go (firstBroken (blockRules (h .writer) a (length (h .table)) (length out))) refl
+  holding-next (close t plain stored out) a = go (firstBroken (closeRules w t plain stored (length out))) refl
     where
-      go : (v : Verdict) → firstBroken (blockRules (h .writer) a (length (h .table)) (length out)) ≡ v → After (block a out)
-      go sound e = rw e (kept (h .writer) (withBlock (h .writer) a) (h .dictionary) ns refl refl (λ x. x) g)
-      go (broken n p) e = rw e g
-  holding-next (close plain stored out) = go (firstBroken (closeRules (h .writer) (h .table) plain stored (length out))) refl
-    where
-      go : (v : Verdict) → firstBroken (closeRules (h .writer) (h .table) plain stored (length out)) ≡ v → After (close plain stored out)
-      go sound e = rw e (kept (h .writer) (closed (h .writer)) (h .dictionary) ns refl refl (closed-not-new (h .writer)) g)
+      go : (v : Verdict) → firstBroken (closeRules w t plain stored (length out)) ≡ v → After (close t plain stored out)
+      go sound e = rw e (kept w (closed w) (h .dictionary) ns refl refl (closed-not-new w) g)
       go (broken n p) e = rw e g
 
 -- ---- every list of calls
 
-holding-last : (cs : List Call) (h : Writing) (ns : List (List ℕ)) → Holding (h .writer) (h .dictionary) ns
-    → Holding (last h cs .writer) (last h cs .dictionary) (heldBehind ns h cs)
-unfolding last heldBehind
-holding-last [] h ns g = g
-holding-last (c ∷ cs) h ns g = holding-last cs (next h c) (heldAfter ns h c) (holding-next h ns g c)
+pub holding-behind : (cs : List Call) (h : Writing) (ns : List (List ℕ)) → Fair h cs → Holding (h .writer) (h .dictionary) ns
+    → Holding (behind h cs .writer) (behind h cs .dictionary) (heldBehind ns (h .writer) cs)
+unfolding behind heldBehind Fair
+holding-behind [] h ns f g = g
+holding-behind (c ∷ cs) h ns f g = holding-behind cs (after h c) (heldAfter ns (h .writer) c) (f .1) (holding-next h ns g c (f .0 .1))
 
-holding-new : (d p table : List ℕ) → Holding (newWriting d p table .writer) d []
+pub holding-new : Holding newWriter [] []
 unfolding namesBytes
-holding-new d p table = record { count = refl; size = refl; whole = λ s. absurd (omega (arith, s)); right = right-none; new = λ t. refl }
+holding-new = record { count = refl; size = refl; whole = λ s. absurd (omega (arith, s)); right = right-none; new = λ t. refl }
 
-pub bounds-new : (d p table : List ℕ) → Bounds (newWriting d p table .writer)
-unfolding isBegun
-bounds-new d p table e = let z : _≡_ {A = ℕ} 0 1 = cc in absurd (omega arith)
+pub behind-writer : (cs : List Call) (h : Writing) → behind h cs .writer ≡ last (h .writer) cs
+unfolding behind last
+behind-writer [] h = refl
+behind-writer (c ∷ cs) h = behind-writer cs (after h c)
+
+pub bounds-behind : (cs : List Call) → Bounds (behind newWriting cs .writer)
+bounds-behind cs = rw (behind-writer cs newWriting) (bounds-last cs newWriter bounds-new)
 
 module _ (k : Writing) (ns : List (List ℕ)) (g : Holding (k .writer) (k .dictionary) ns) (b : Bounds (k .writer)) where
-  number-told : (n : List ℕ) (s : Naming) → writer.nameOf (k .writer) (k .dictionary) n ≡ given s
-      → (s .number < s .next .names) × (nameOf (next k (name n) .dictionary) (s .number) ≡ n)
-  unfolding next writer.nameOf nameOut
-  number-told n s e =
-      let f = heldAs (k .writer) (k .dictionary) n in
-      let q = settle-given (firstBroken (nameRules (k .writer) (k .dictionary) n)) (namingOf f (k .writer) n) s (sym e) in
-      let p = name-parts (k .writer) (k .dictionary) n (q .0) in
-      rw (q .0, q .1) (name-numbers (k .writer) (k .dictionary) ns g n (p .0) f refl (p .1))
+  abbrev v : Writer
+  v = k .writer
 
-  old-told : isBegun (k .writer .turn) ≡ true → (i : ℕ) → i < length ns
-      → (writer.nameOf (k .writer) (k .dictionary) (getD ns i []) ≡ given (record { next = k .writer; number = i }))
-      × (next k (name (getD ns i [])) .dictionary ≡ k .dictionary)
-  unfolding next
-  old-told t i l =
+  number-told : (d n : List ℕ) (s : Naming) → Agrees k (name d n) → writer.nameOf v d n ≡ given s
+      → (s .number < s .next .names) × (nameOf (nameOut v d n) (s .number) ≡ n)
+  unfolding writer.nameOf nameOut
+  number-told d n s a e =
+      let f = heldAs v d n in
+      let q = settle-given (firstBroken (nameRules v d n)) (namingOf f v n) s (sym e) in
+      let p = name-parts v d n (q .0) in
+      rw (q .0, q .1) (name-numbers v d ns (holding-lent v (k .dictionary) d ns a g) n (p .0) f refl (p .1))
+
+  old-told : isBegun (v .turn) ≡ true → (d : List ℕ) (i : ℕ) → i < length ns → Agrees k (name d (getD ns i []))
+      → (writer.nameOf v d (getD ns i []) ≡ given (record { next = v; number = i })) × (nameOut v d (getD ns i []) ≡ d)
+  old-told t d i l a =
       let n = getD ns i [] in
-      let r = name-held (k .writer) (k .dictionary) n (b t) i (old-number (k .writer) (k .dictionary) ns g i l (heldAs (k .writer) (k .dictionary) n) refl) in
+      let r = name-held v d n (b t) i (old-number v d ns (holding-lent v (k .dictionary) d ns a g) i l (heldAs v d n) refl) in
       (sym (r .0), sym (r .1))
 
-  closing-sound : 1 ≤ length ns → (stored out : List ℕ) → Closable k stored out
-      → verdictIn (closeOf (k .writer) (k .table) (take (k .writer .dictionary) (k .dictionary)) stored (length out)) ≡ sound
-  unfolding closeOf closeRules endRules lastRules
-  closing-sound s stored out c =
-      let w = k .writer in
+  closing-sound : 1 ≤ length ns → (t stored out : List ℕ) → Closable v t stored out → verdictFor v (close t (builtNames k) stored out) ≡ sound
+  unfolding verdictFor closeOf closeRules endRules lastRules
+  closing-sound s t stored out c =
       let n = leAt 4 (plainNames ns) 0 in
-      let size = length (lastBytes w (k .table) stored) in
-      let ends : firstBroken (endRules w (length (k .table)) stored) ≡ sound =
+      let size = length (lastBytes v t stored) in
+      let ends : firstBroken (endRules v (length t) stored) ≡ sound =
       flag-holds _ _ _ _ (ap not (c .shut)) ∙ least-holds _ _ _ _ _ (c .rows) ∙ most-holds _ _ _ _ _ (c .fits) ∙ least-holds _ _ _ _ _ (c .some) ∙ first-none in
-      let lasts : firstBroken (lastRules w n size (length out)) ≡ sound =
+      let lasts : firstBroken (lastRules v n size (length out)) ≡ sound =
       least-holds _ _ _ _ _ (omega (arith, plain-count ns (g .right), g .count, c .given)) ∙ least-holds _ _ _ _ _ (c .room) ∙ first-none in
-      let all : firstBroken (closeRules w (k .table) (plainNames ns) stored (length out)) ≡ sound =
-      then-sound (begunRules w) _ (b (c .turn)) ∙ then-sound (endRules w (length (k .table)) stored) _ ends
+      let all : firstBroken (closeRules v t (plainNames ns) stored (length out)) ≡ sound =
+      then-sound (begunRules v) _ (b (c .turn)) ∙ then-sound (endRules v (length t) stored) _ ends
       ∙ then-sound (dictionaryRules (plainNames ns)) _ (plain-sound ns (g .right)) ∙ lasts in
       rw (g .whole s, all)
 
@@ -372,13 +388,11 @@ module _ (k : Writing) (ns : List (List ℕ)) (g : Holding (k .writer) (k .dicti
         bytes = g .whole;
         accepted = λ s. ap dictionaryOf (g .whole s) ∙ plain-accepted ns (g .right) ∙ ap given (sym (g .count));
         closes = closing-sound;
-        each = each-held (k .writer) (k .dictionary) ns g;
+        each = each-held v (k .dictionary) ns g;
         number = number-told;
         old = old-told;
       }
 
 pub names-built : NamesBuilt
 unfolding NamesBuilt
-names-built d p table cs =
-    let h = newWriting d p table in
-    holds-names (last h cs) (namesHeld h cs) (holding-last cs h [] (holding-new d p table)) (bounds-last cs h (bounds-new d p table))
+names-built cs f = holds-names (behind newWriting cs) (namesHeld cs) (holding-behind cs newWriting [] f holding-new) (bounds-behind cs)

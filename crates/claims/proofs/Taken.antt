@@ -19,7 +19,7 @@ use Rattle.writer.specs.State.{isBegun, begunRules, begunWriter, noPending}
 use Rattle.writer_blocks.specs.Block.{Adding, readBy, blockFor, takeRules, withBlock}
 use Rattle.writer.specs.Inner.{Bounded}
 use Rattle.writer.proofs.Turns.{is-begun, bounds-sound}
-use Rattle.claims.specs.Blocks.{Good, Valid}
+use Rattle.disk.proofs.Blocks.{Good, Valid}
 use Rattle.claims.proofs.Calls.{Takes}
 
 -- ---- one adding
@@ -80,15 +80,15 @@ unfoldable pub after : Writer → List Adding → Writer
 after w [] = w
 after w (a ∷ xs) = after (withBlock w a) xs
 
--- each of them is taken behind those before it, and its stored bytes are bytes
+-- each of them is taken behind those before it, and its bytes are bytes
 unfoldable pub Taken : Writer → List Adding → Type 0
 Taken w [] = Unit {0}
-Taken w (a ∷ xs) = (Takes w a × Bytes (a .stored)) × Taken (withBlock w a) xs
+Taken w (a ∷ xs) = (Takes w a × (Bytes (a .plain) × Bytes (a .stored))) × Taken (withBlock w a) xs
 
 pub taken-valid : (w : Writer) (xs : List Adding) → Taken w xs → Valid (w .end .0) (map blockFor xs)
 unfolding Taken Valid withBlock
 taken-valid w [] t = tt
-taken-valid w (a ∷ xs) t = (good w a (t .0 .0) (t .0 .1), taken-valid (withBlock w a) xs (t .1))
+taken-valid w (a ∷ xs) t = (good w a (t .0 .0) (t .0 .1 .1), taken-valid (withBlock w a) xs (t .1))
 
 pub taken-few : (w : Writer) (xs : List Adding) → Taken w xs → w .blocks ≤ 4096 → w .blocks + length xs ≤ 4096
 unfolding Taken withBlock
@@ -111,12 +111,13 @@ module _ (a : Adding) where
   after-more w [] = refl
   after-more w (x ∷ xs) = after-more (withBlock w x) xs
 
-  pub taken-more : (w : Writer) (xs : List Adding) → Taken w xs → Takes (after w xs) a → Bytes (a .stored) → Taken w (xs ++ (a ∷ []))
+  pub taken-more : (w : Writer) (xs : List Adding) → Taken w xs → Takes (after w xs) a → Bytes (a .plain) × Bytes (a .stored)
+      → Taken w (xs ++ (a ∷ []))
   unfolding Taken after
   taken-more w [] t u b = ((u, b), tt)
   taken-more w (x ∷ xs) t u b = (t .0, taken-more (withBlock w x) xs (t .1) u b)
 
-  pub taken-next : (w : Writer) (xs ys : List Adding) → Taken w (xs ++ (a ∷ ys)) → Takes (after w xs) a × Bytes (a .stored)
+  pub taken-next : (w : Writer) (xs ys : List Adding) → Taken w (xs ++ (a ∷ ys)) → Takes (after w xs) a × (Bytes (a .plain) × Bytes (a .stored))
   unfolding Taken after
   taken-next w [] ys t = t .0
   taken-next w (x ∷ xs) ys t = taken-next (withBlock w x) xs ys (t .1)

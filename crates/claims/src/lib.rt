@@ -1,1 +1,1 @@
-// What recovery and repair find on a disk that was cut: definitions and theorems only.
+// What the library must hold to, over every list of a writer's calls and every cut: definitions and theorems only.

@@ -5,7 +5,7 @@ use mathlib.Core.List.{List, [], _∷_, _++_}
 use Prim.Native.Nat.{ℕ, _≤_, _<_}
 use borrow.Author.Tests.{le-leb, lt-leb, eq-eqb, ne-eqb}
 use native.Mathlib.Omega.{arith}
-use Rattle.verdict.specs.Rules.{Rule, flag, equal, atLeast, atMost, holds, numberOf, placeOf, Verdict, sound, broken, firstBroken, Held, given, refused, settle, ruled}
+use Rattle.verdict.specs.Rules.{Rule, flag, equal, atLeast, atMost, holds, numberOf, placeOf, Verdict, sound, broken, firstBroken, Held, given, refused, settle, verdictIn, ruled}
 
 -- no rule is broken where there is none
 pub first-none : firstBroken [] ≡ sound
@@ -96,9 +96,20 @@ pub held-parts : (rs qs : List Rule) → Held (rs ++ qs) → Held rs × Held qs
 held-parts [] qs h = (tt, h)
 held-parts (r ∷ rs) qs h = let q = held-parts rs qs (h .1) in ((h .0, q .0), q .1)
 
+-- rules behind rules hold where all of them do
+pub parts-sound : (rs qs : List Rule) → firstBroken (rs ++ qs) ≡ sound → (firstBroken rs ≡ sound) × (firstBroken qs ≡ sound)
+parts-sound rs qs e =
+    let h = held-parts rs qs (sound-held (rs ++ qs) e) in
+    (held-sound rs (h .0), held-sound qs (h .1))
+
 -- what is broken isn't sound
 pub never-both : (v : Verdict) (n p : ℕ) → v ≡ broken n p → v ≡ sound → ⊥
 never-both v n p b s = let z : _≡_ {A = ℕ} 0 1 = cc in omega arith
+
+-- an answer says what its rules say
+pub settle-verdict : {A : Type 0} (v : Verdict) (a : A) → verdictIn (settle v a) ≡ v
+settle-verdict sound a = refl
+settle-verdict (broken n p) a = refl
 
 -- what an outcome says of the verdict
 pub settle-given : {A : Type 0} (v : Verdict) (a b : A) → given b ≡ settle v a → (v ≡ sound) × (b ≡ a)

@@ -1,0 +1,34 @@
+-- What the library must hold to, all of it: the three demands, over the calls and at the C edge, and the paper's worked
+-- cases. Assumes nothing.
+use Rattle.numbers.specs.Numbers.{TableNumbers}
+use Rattle.claims.specs.Demand1.{RefusalsLeave}
+use Rattle.claims.specs.Built.{NamesBuilt, EntriesBuilt}
+use Rattle.claims.specs.Steps.{StepsRead}
+use Rattle.claims.specs.Demand2.{Demand2, EntryTrips}
+use Rattle.claims.specs.Uses.{WholeUse}
+use Rattle.claims.specs.Rewritten.{Rewritten, Rewritable}
+use Rattle.claims.specs.Demand3.{Demand3}
+use Rattle.claims.specs.Worked.{Worked}
+use Rattle.edge.specs.Edge.{EdgeRefines}
+use Rattle.edge.specs.EdgeDemand3.{EdgeDemand3}
+
+pub record Mission : Type 0 where
+  -- demand 1: each refusal has a number of the table, and changes nothing
+  pub numbers : TableNumbers
+  pub refusals : RefusalsLeave
+  -- demand 2: what the writer finishes the reader opens, with the same entries and names
+  pub finished : Demand2
+  pub used : WholeUse
+  pub stepped : StepsRead
+  pub names-built : NamesBuilt
+  pub entries-built : EntriesBuilt
+  pub entry-trips : EntryTrips
+  pub rewritten : Rewritten
+  pub rewritable : Rewritable
+  -- demand 3: recovery and repair at every cut
+  pub recovered : Demand3
+  -- the same of the calls for C
+  pub edge : EdgeRefines
+  pub edge-recovered : EdgeDemand3
+  -- K1 to K9
+  pub worked : Worked

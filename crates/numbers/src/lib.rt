@@ -1,0 +1,1 @@
+// Every refusal has a number of the table: definitions and a theorem only.
