@@ -11,6 +11,7 @@ use Rattle.claims.proofs.Records.{rewritable}
 use Rattle.claims.proofs.Demand3.{demand-3}
 use Rattle.claims.proofs.Worked.{worked}
 use Rattle.edge.proofs.Edge.{edge-refines}
+use Rattle.edge.proofs.EdgeDemand2.{edge-demand-2, edge-use}
 use Rattle.edge.proofs.EdgeDemand3.{edge-demand-3}
 use Rattle.mission.specs.Mission.{Mission}
 
@@ -29,6 +30,8 @@ mission =
       rewritable = rewritable;
       recovered = demand-3;
       edge = edge-refines;
+      edge-finished = edge-demand-2;
+      edge-used = edge-use;
       edge-recovered = edge-demand-3;
       worked = worked;
     }

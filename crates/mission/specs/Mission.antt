@@ -10,6 +10,7 @@ use Rattle.claims.specs.Rewritten.{Rewritten, Rewritable}
 use Rattle.claims.specs.Demand3.{Demand3}
 use Rattle.claims.specs.Worked.{Worked}
 use Rattle.edge.specs.Edge.{EdgeRefines}
+use Rattle.edge.specs.EdgeDemand2.{EdgeDemand2, EdgeUse}
 use Rattle.edge.specs.EdgeDemand3.{EdgeDemand3}
 
 pub record Mission : Type 0 where
@@ -29,6 +30,8 @@ pub record Mission : Type 0 where
   pub recovered : Demand3
   -- the same of the calls for C
   pub edge : EdgeRefines
+  pub edge-finished : EdgeDemand2
+  pub edge-used : EdgeUse
   pub edge-recovered : EdgeDemand3
   -- K1 to K9
   pub worked : Worked
