@@ -19,7 +19,7 @@ use Rattle.writer.specs.declared.state.Pending.{Pending}
 use Rattle.writer.specs.declared.state.Writer.{Writer}
 use Rattle.writer.specs.State.{isNew, isOpen, begunRules, begunWriter, newWriter}
 use Rattle.writer.specs.Begin.{beginRules}
-use Rattle.writer_blocks.specs.Block.{Adding, readBy, blockFor, takeRules, roomRules, blockRules, rowsOut}
+use Rattle.writer_blocks.specs.Block.{Adding, readBy, blockFor, takeRules, roomRules, blockRules, blockOf, rowsOut}
 use Rattle.writer.specs.Close.{endRules, lastRules, lastBytes, closeRules, closeOf}
 use Rattle.writer.proofs.Beginning.{begin-sound}
 use Rattle.disk.proofs.Blocks.{length-blocks}
@@ -58,7 +58,8 @@ fair-append (c ∷ cs) ds h f g = (f .0, fair-append cs ds (after h c) (f .1) g)
 -- ---- the addings
 
 -- behind addings that were taken the next one is accepted where there is room
-accepts : (xs ys : List Adding) (a : Adding) (table room : ℕ) → Taken begunWriter (xs ++ (a ∷ ys)) → (length xs + 1) * stride ≤ table → 36 + length (a .stored) ≤ room
+accepts : (xs ys : List Adding) (a : Adding) (table room : ℕ) → Taken begunWriter (xs ++ (a ∷ ys)) → (length xs + 1) * stride ≤ table
+    → 36 + length (a .stored) ≤ room
     → firstBroken (blockRules (taken.after begunWriter xs) a table room) ≡ sound
 unfolding blockRules roomRules
 accepts xs ys a table room t p q =
@@ -98,7 +99,7 @@ module _ (out : List ℕ) where
   add-all : (xs ys : List Adding) (h : Writing) (t : List ℕ) → Between xs (h .writer) t → h .writer ≡ taken.after begunWriter xs
       → take (h .writer .blocks * stride) t ≡ take (h .writer .blocks * stride) (h .table) → Taken begunWriter (xs ++ ys)
       → length (xs ++ ys) * stride ≤ length t → (n : ℕ) → length (blocksBytes n (map blockFor ys)) ≤ length out → Added xs ys h t
-  unfolding replay tableOf Fair addings last behind tableAfter
+  unfolding replay tableOf Fair addings last behind tableAfter blockOf
   add-all xs [] h t b e m k p n q = record { fair = tt; adds = refl; writer = rw (append-nil xs) e; room = refl; agrees = m }
   add-all xs (a ∷ ys) h t b e m k p n q =
       let w = h .writer in
@@ -111,9 +112,9 @@ module _ (out : List ℕ) where
       let r = rowFor (w .length) (blockFor a) in
       let z : length u ≡ length t = ap length (block-row w t a out s) ∙ length-splice t (w .blocks * stride) (tableBytes (r ∷ [])) in
       let g : next w (block t a out) ≡ taken.after begunWriter (xs ++ (a ∷ [])) = block-leaves w t a out s ∙ rw (e, after-more a begunWriter xs) in
-      let i = add-all (xs ++ (a ∷ [])) ys (after h (block t a out)) u (block-between xs w t b a out y s) g refl (rw j k) (rw j (omega arith)) (suc n) (f .1) in
+      let i = add-all (xs ++ (a ∷ [])) ys (after h (block t a out)) u (block-between xs w t b a out y s) g (rw s refl) (rw j k) (rw j (omega arith)) (suc n) (f .1) in
       record {
-        fair = ((y, m), i .fair);
+        fair = ((y, λ v. m), i .fair);
         adds = rw (block-accepted w t a out s) (ap (λ (l : List Adding). a ∷ l) (i .adds));
         writer = i .writer ∙ ap (taken.after begunWriter) j;
         room = i .room ∙ z;
@@ -165,7 +166,7 @@ module _ (xs : List Adding) (t : Taken begunWriter xs) (stored : List ℕ) where
 
   calls-fair : Fair newWriting calls
   unfolding Fair
-  calls-fair = ((tt, tt), all-added .fair)
+  calls-fair = ((tt, λ v. tt), all-added .fair)
 
   calls-add : addings newWriter calls ≡ xs
   unfolding addings accepted
@@ -217,7 +218,7 @@ module _ (xs : List Adding) (t : Taken begunWriter xs) (stored : List ℕ) where
         table = lent;
         plain = plain;
         out = out;
-        fair = fair-append calls (close lent plain stored out ∷ []) newWriting calls-fair ((tt, all-added .agrees), tt);
+        fair = fair-append calls (close lent plain stored out ∷ []) newWriting calls-fair ((tt, λ v. all-added .agrees), tt);
         adds = calls-add;
         closes = settle-verdict (firstBroken (closeRules (last newWriter calls) lent plain stored (length out))) _
             ∙ rw calls-leave (close-sound some fits);

@@ -77,9 +77,9 @@ module _ (w : Writer) where
       go (broken n q) e = rw e (idle-same w)
 
   pub block-refused : (t : List ℕ) (a : Adding) (out : List ℕ) (n p : ℕ) → firstBroken (blockRules w a (length t) (length out)) ≡ broken n p
-      → Idle w (next w (block t a out)) × (stores w (block t a out) ≡ []) × (accepted w (block t a out) ≡ []) × (rowsOut w a t (length out) ≡ t)
-  unfolding next stores accepted blockOf rowsOut
-  block-refused t a out n p e = rw e (idle-same w, refl, refl, refl)
+      → Idle w (next w (block t a out)) × (stores w (block t a out) ≡ []) × (accepted w (block t a out) ≡ [])
+  unfolding next stores accepted blockOf
+  block-refused t a out n p e = rw e (idle-same w, refl, refl)
 
   pub close-refused : (t plain stored out : List ℕ) (n p : ℕ) → firstBroken (closeRules w t plain stored (length out)) ≡ broken n p
       → Idle w (next w (close t plain stored out)) × (stores w (close t plain stored out) ≡ [])
@@ -154,7 +154,8 @@ four h d i f k a b c =
     let l : length x ≡ 64 + (4 + k + (length i + 24)) = omega (arith, length-append h (d ++ (i ++ f)), length-append d (i ++ f), length-append i f) in
     let one : drop 64 x ≡ d ++ (i ++ f) = drop-at h (d ++ (i ++ f)) 64 a in
     let m : 64 + (4 + k) ≡ 68 + k = omega arith in
-    let two : drop (68 + k) x ≡ i ++ f = ap (λ (n : ℕ). drop n x) (sym m) ∙ sym (drop-drop (4 + k) 64 x) ∙ ap (drop (4 + k)) one ∙ drop-at d (i ++ f) (4 + k) b in
+    let two : drop (68 + k) x ≡ i ++ f = ap (λ (n : ℕ). drop n x) (sym m) ∙ sym (drop-drop (4 + k) 64 x) ∙ ap (drop (4 + k)) one
+    ∙ drop-at d (i ++ f) (4 + k) b in
     let n : length x - 24 ≡ 68 + k + length i = omega arith in
     let o : length i ≡ length x - (92 + k) = omega arith in (
       take-at h (d ++ (i ++ f)) 64 a,

@@ -56,7 +56,7 @@ module _ (cs : List Call) (t plain stored out : List ℕ) (f : Fair newWriting (
   closing-between =
       let g = fair-first cs (close t plain stored out ∷ []) newWriting f in
       let i = closing-amid (addings newWriter cs) (run newWriter cs) k t plain stored out closing-rules (stage-new cs newWriting (g .0) refl) in
-      (relent (addings newWriter cs) (k .writer) (k .table) (i .0) t (g .1 .0 .1), i .1)
+      (relent (addings newWriter cs) (k .writer) (k .table) (i .0) t (g .1 .0 .1 (rw (behind-writer cs newWriting) c)), i .1)
 
   closing-stores : run newWriter (cs ++ (close t plain stored out ∷ [])) ≡ closedStores (addings newWriter cs) stored
   unfolding run closedStores

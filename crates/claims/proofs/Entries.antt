@@ -271,16 +271,17 @@ module _ (h : Writing) (es : List Entry) (g : Opened (h .writer) (h .payload) es
   name-after d n sound e = rw e (name-kept w n (h .payload) es (heldAs w d n) g)
   name-after d n (broken m p) e = rw e g
 
-  entry-after : (p : List ℕ) (t : Epoch) (text fields : List ℕ) → Typed (entry p t text fields) → Agrees h (entry p t text fields) → (v : Verdict)
+  entry-after : (p : List ℕ) (t : Epoch) (text fields : List ℕ) → Typed (entry p t text fields)
+      → (verdictFor w (entry p t text fields) ≡ sound → Agrees h (entry p t text fields)) → (v : Verdict)
       → firstBroken (entryRules w t text (recordsIn fields) (fieldsOf fields) (length p)) ≡ v → After (entry p t text fields)
-  unfolding next payloadAfter openAfter entryOf entryOut
+  unfolding verdictFor next payloadAfter openAfter entryOf entryOut
   entry-after p t text fields r a sound e =
       let q = entry-parts w t text (recordsIn fields) (fieldsOf fields) (length p) e in
       let l : length (fieldsOf fields) ≤ recordsIn fields = omega (arith, length-fields fields) in
       rw e
-      (opened-more w p es (opened-lent w (h .payload) p es a g) t text (recordsIn fields) (fieldsOf fields) (r .0) (fields-ranged fields (r .1)) l
+      (opened-more w p es (opened-lent w (h .payload) p es (a (rw e)) g) t text (recordsIn fields) (fieldsOf fields) (r .0) (fields-ranged fields (r .1)) l
       (q .0) (q .1) (q .2))
-  entry-after p t text fields r a (broken n q) e = rw e (opened-lent w (h .payload) p es a g)
+  entry-after p t text fields r a (broken n q) e = rw e g
 
   block-after : (t : List ℕ) (a : Adding) (out : List ℕ) (v : Verdict) → firstBroken (blockRules w a (length t) (length out)) ≡ v → After (block t a out)
   unfolding next payloadAfter openAfter blockOf withBlock
@@ -294,7 +295,7 @@ module _ (h : Writing) (es : List Entry) (g : Opened (h .writer) (h .payload) es
       rw e (opened-none (closed w) (h .payload) es z (g .shut z))
   close-after t plain stored out (broken n p) e = rw e g
 
-  pub opened-next : (c : Call) → Typed c → Agrees h c → After c
+  pub opened-next : (c : Call) → Typed c → (verdictFor w c ≡ sound → Agrees h c) → After c
   opened-next (begin out) r a = begin-after out (firstBroken (beginRules w (length out))) refl
   opened-next (name d n) r a = name-after d n (firstBroken (nameRules w d n)) refl
   opened-next (entry p t text fields) r a =

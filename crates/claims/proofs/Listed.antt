@@ -192,12 +192,14 @@ module _ (s t : List ℕ) (ns : List (List ℕ)) (right : Right ns) (here : drop
   sizes (suc i) l =
       let n = getD ns i [] in
       let m = namesBytes (suc i) (drop (suc i) ns) in
-      let a : length (namesBytes i (drop i ns)) ≡ length (nameBytes i n ++ m) = ap (λ (k : List (List ℕ)). length (namesBytes i k)) (drop-cons ns i [] l) ∙ length-cons i n (drop (suc i) ns) in
+      let a : length (namesBytes i (drop i ns)) ≡ length (nameBytes i n ++ m) = ap (λ (k : List (List ℕ)). length (namesBytes i k)) (drop-cons ns i [] l)
+      ∙ length-cons i n (drop (suc i) ns) in
       omega (arith, sizes i (omega arith), place-after i l, length-append (nameBytes i n) m, length-name i n)
 
   pub end-there : placeOf s (length ns) ≡ 4 + length (namesBytes 0 ns)
   end-there =
-      let e : length (namesBytes (length ns) (drop (length ns) ns)) ≡ 0 = ap (λ (k : List (List ℕ)). length (namesBytes (length ns) k)) (drop-length ns) ∙ length-none (length ns) in
+      let e : length (namesBytes (length ns) (drop (length ns) ns)) ≡ 0 = ap (λ (k : List (List ℕ)). length (namesBytes (length ns) k)) (drop-length ns)
+      ∙ length-none (length ns) in
       omega (arith, sizes (length ns) (omega arith))
 
 -- ---- the plain dictionary alone

@@ -37,7 +37,8 @@ use Rattle.writer_blocks.proofs.Blocks.{block-bounded}
 use Rattle.claims.specs.Calls.{Call, begin, name, entry, block, close, ifGiven, verdictFor, next, last}
 use Rattle.claims.specs.Calls.{Writing, newWriting, dictionaryAfter, after, behind, Agrees, Fair}
 use Rattle.claims.specs.Built.{among, heldAfter, heldBehind, namesHeld, namesBytes, plainNames, builtNames, Closable, HoldsNames, NamesBuilt}
-use Rattle.claims.proofs.Listed.{Right, right-none, right-more, length-name, names-more, name-there, number-one, plain-count, plain-sound, plain-accepted}
+use Rattle.claims.proofs.Listed.{Right, right-none, right-more, length-name, names-more, name-there, number-one, plain-count, plain-sound}
+use Rattle.claims.proofs.Listed.{plain-accepted}
 
 -- ---- a search among the names
 
@@ -149,7 +150,8 @@ behind-count [] d n e w = rw e
 behind-count (x ∷ ns) d n e w =
     let m = x ∷ ns in
     ap (drop 4) (sym (take-append-drop n d)) ∙ ap (λ (l : List ℕ). drop 4 (l ++ drop n d)) (w (omega arith))
-    ∙ ap (drop 4) (append-assoc (le 4 (length m)) (namesBytes 0 m) (drop n d)) ∙ drop-at (le 4 (length m)) (namesBytes 0 m ++ drop n d) 4 (length-le 4 (length m))
+    ∙ ap (drop 4) (append-assoc (le 4 (length m)) (namesBytes 0 m) (drop n d))
+    ∙ drop-at (le 4 (length m)) (namesBytes 0 m ++ drop n d) 4 (length-le 4 (length m))
 
 -- x laid behind the front that ends at n, then a count over its first four bytes
 laid : (d b x : List ℕ) (n m : ℕ) → n ≡ 4 + length b → drop 4 d ≡ b ++ drop n d → n + length x ≤ length d
@@ -300,14 +302,14 @@ module _ (h : Writing) (ns : List (List ℕ)) (g : Holding (h .writer) (h .dicti
   begin-after out sound e = rw e (begun-holds w (h .dictionary) ns (begin-new w (length out) e) g)
   begin-after out (broken n p) e = rw e g
 
-  name-after : (d n : List ℕ) → Agrees h (name d n) → (v : Verdict) → firstBroken (nameRules w d n) ≡ v → After (name d n)
-  unfolding next dictionaryAfter heldAfter writer.nameOf nameOut
+  name-after : (d n : List ℕ) → (verdictFor w (name d n) ≡ sound → Agrees h (name d n)) → (v : Verdict) → firstBroken (nameRules w d n) ≡ v → After (name d n)
+  unfolding verdictFor next dictionaryAfter heldAfter writer.nameOf nameOut
   name-after d n a sound e =
       let p = name-parts w d n e in
-      rw e (name-holds w d ns (holding-lent w (h .dictionary) d ns a g) n (p .0) (heldAs w d n) refl (p .1))
-  name-after d n a (broken m p) e = rw e (holding-lent w (h .dictionary) d ns a g)
+      rw e (name-holds w d ns (holding-lent w (h .dictionary) d ns (a (rw e)) g) n (p .0) (heldAs w d n) refl (p .1))
+  name-after d n a (broken m p) e = rw e g
 
-  pub holding-next : (c : Call) → Agrees h c → After c
+  pub holding-next : (c : Call) → (verdictFor w c ≡ sound → Agrees h c) → After c
   unfolding next dictionaryAfter heldAfter entryOf withEntry blockOf withBlock closeOf closed
   holding-next (begin out) a = begin-after out (firstBroken (beginRules w (length out))) refl
   holding-next (name d n) a = name-after d n a (firstBroken (nameRules w d n)) refl

@@ -31,7 +31,7 @@ use Rattle.packing.specs.Inner.{Within, AllWithin}
 use Rattle.packing.specs.Rules.{largest}
 use Rattle.packing.specs.Table.{recordsIn, truthFor, valueFor, recordAt, recordsFrom, fieldsOf}
 use Rattle.writer.specs.declared.state.Writer.{Writer}
-use Rattle.writer_entries.specs.Entry.{entryRules, entryOut}
+use Rattle.writer_entries.specs.Entry.{entryRules, entryOf, entryOut}
 use Rattle.claims.specs.Calls.{Call, entry, next, lentTo, leftBy, Writing, newWriting, payloadAfter, after, behind, Fair}
 use Rattle.claims.specs.Rewritten.{Stands, Adds, none, more, InBuffer, Rewritable}
 use Rattle.claims.proofs.Entries.{not-open}
@@ -327,13 +327,31 @@ calls-add names start n prev room (e ∷ es) g l w p r =
     more (stands names start n prev e (g .0) (omega (arith, entry-fits start e))) r
     (calls-add names start (suc n) (e .time) room es (g .1) (omega arith) (next w (callFor p e)) u (omega (arith, length-left w p e)))
 
+-- what a call leaves in its buffer agrees with what is kept, whether it is accepted or not
+module _ (h : Writing) (p : List ℕ) (e : Entry) (a : take (h .writer .pending .plain) p ≡ take (h .writer .pending .plain) (h .payload)) where
+  abbrev Agreed : Type 0
+  Agreed =
+      let n = next (h .writer) (callFor p e) .pending .plain in
+      take n (leftBy (h .writer) (callFor p e) .kept) ≡ take n (payloadAfter h (callFor p e))
+
+  abbrev ruled : Verdict
+  ruled = firstBroken (entryRules (h .writer) (record { 0 = e .time }) (textFor e) (recordsIn (fieldsFor e)) (fieldsOf (fieldsFor e)) (length p))
+
+  agreed-by : (v : Verdict) → ruled ≡ v → Agreed
+  unfolding next leftBy payloadAfter entryOf entryOut
+  agreed-by sound x = rw x refl
+  agreed-by (broken n q) x = rw x a
+
+  agreed : Agreed
+  agreed = agreed-by ruled refl
+
 calls-fair : (names start n prev : ℕ) (es : List Entry) → Good names start n prev es → (h : Writing) (p : List ℕ)
     → take (h .writer .pending .plain) p ≡ take (h .writer .pending .plain) (h .payload) → Fair h (callsFor (h .writer) p es)
-unfolding Good callsFor Fair leftBy payloadAfter
+unfolding Good callsFor Fair
 calls-fair names start n prev [] g h p a = tt
 calls-fair names start n prev (e ∷ es) g h p a = (
-  ((g .0 .fits, bytes-table (allPlaced 0 (e .fields))), a),
-  calls-fair names start (suc n) (e .time) es (g .1) (after h (callFor p e)) (leftBy (h .writer) (callFor p e) .kept) refl,
+  ((g .0 .fits, bytes-table (allPlaced 0 (e .fields))), λ v. a),
+  calls-fair names start (suc n) (e .time) es (g .1) (after h (callFor p e)) (leftBy (h .writer) (callFor p e) .kept) (agreed h p e a),
 )
 
 calls-lent : (es : List Entry) (w : Writer) (p : List ℕ) → InBuffer p w (callsFor w p es)

@@ -38,7 +38,7 @@ use Rattle.writer.specs.declared.state.Writer.{Writer}
 use Rattle.writer.specs.State.{begunRules}
 use Rattle.writer_entries.specs.Entry.{startFor, earliestFor, deltaFor, timeRules, entryRules, withEntry, entryOf, entryOut}
 use Rattle.writer_entries.proofs.Entries.{start-open, earliest-open, start-new, earliest-new, time-sound, entry-bounded}
-use Rattle.claims.specs.Calls.{Call, entry, verdictFor, next, Writing, newWriting, payloadAfter, after, behind, Fair}
+use Rattle.claims.specs.Calls.{Call, entry, ifGiven, verdictFor, next, Writing, newWriting, payloadAfter, after, behind, Fair}
 use Rattle.claims.specs.Built.{builtPlain}
 use Rattle.claims.specs.Rewritten.{Stands, Adds, none, more, AllAccepted, Rewritten}
 use Rattle.claims.proofs.Names.{bounds-behind}
@@ -168,6 +168,12 @@ module _ (w : Writer) (names start n prev : ℕ) (e : Entry) (p text fields : Li
   unfolding entryOut
   entry-lays = rw (rules, bytes-are)
 
+  -- and what it lays is kept
+  entry-kept : (q : List ℕ) → ifGiven (entryOf w t text (recordsIn fields) fs (length p)) (λ v. entryOut w t text (recordsIn fields) fs p) q
+      ≡ entryOut w t text (recordsIn fields) fs p
+  unfolding entryOf
+  entry-kept q = rw rules
+
   plain-next : next w c .pending .plain ≡ w .pending .plain + length (packEntry start e)
   unfolding withEntry
   plain-next = rw (entry-leaves, size-is)
@@ -233,7 +239,9 @@ write room (e ∷ es) (c ∷ cs) (more {payload = p} {text = text} {fields = fie
     let y = write room es cs a (after h c) names start (suc n) (e .time) (f .1) (amid-next w names start n prev e p text fields i known (g .0) s near small has)
     (names-next w names start n prev e p text fields i known (g .0) s near small has) (g .1) soon (omega arith) (omega arith) in
     let z : builtPlain (after h c) ≡ builtPlain h ++ b =
-    plain-laid w names start n prev e p text fields i known (g .0) s near small has ∙ ap (λ (u : List ℕ). u ++ b) (f .0 .1) in
+    ap (take (next w c .pending .plain)) (entry-kept w names start n prev e p text fields i known (g .0) s near small has (h .payload))
+    ∙ plain-laid w names start n prev e p text fields i known (g .0) s near small has ∙ ap (λ (u : List ℕ). u ++ b)
+    (f .0 .1 (entry-accepted w names start n prev e p text fields i known (g .0) s near small has)) in
     record {
       accepted = (entry-accepted w names start n prev e p text fields i known (g .0) s near small has, y .accepted);
       bytes = y .bytes ∙ ap (λ (u : List ℕ). u ++ pack start es) z ∙ append-assoc (builtPlain h) b (pack start es);

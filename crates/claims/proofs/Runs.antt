@@ -18,8 +18,8 @@ use Rattle.writer.specs.declared.state.Turn.the-variants as turn
 use Rattle.writer.specs.declared.state.Writer.{Writer}
 use Rattle.writer.specs.State.{isBegun, begunRules, begunWriter}
 use Rattle.writer.specs.Begin.{beginRules}
-use Rattle.writer_blocks.specs.Block.{Adding, blockFor, takeRules, blockRules, withBlock, rowsOut}
-use Rattle.writer.specs.Close.{closeRules, closed}
+use Rattle.writer_blocks.specs.Block.{Adding, blockFor, takeRules, blockRules, withBlock, blockOf, rowsOut}
+use Rattle.writer.specs.Close.{closeRules, closed, closeOf}
 use Rattle.writer.proofs.Turns.{not-begun, new-turn, begun-turn, closed-turn}
 use Rattle.writer.proofs.Beginning.{begin-turn}
 use Rattle.disk.specs.Disk.{Store, blockStore, addingOf}
@@ -28,7 +28,7 @@ use Rattle.disk.proofs.Disk.{endOf}
 use Rattle.disk.proofs.InFull.{held, held-append}
 use Rattle.disk.proofs.Stores.{blockStores, closingStores, openStores, closedStores, Begun}
 use Rattle.disk.proofs.Stores as stored
-use Rattle.claims.specs.Calls.{Call, begin, name, entry, block, close, next, stores, accepted, run, addings}
+use Rattle.claims.specs.Calls.{Call, begin, name, entry, block, close, verdictFor, next, stores, accepted, run, addings}
 use Rattle.claims.specs.Calls.{Writing, Typed, Agrees, Fair, tableAfter, after, behind}
 use Rattle.claims.proofs.Calls.{Idle, begin-refused, name-idle, entry-idle, block-refused, close-refused, begin-leaves, begin-stores}
 use Rattle.claims.proofs.Calls.{Takes, block-takes, block-room, block-leaves, block-row, block-accepted, block-stores}
@@ -187,54 +187,55 @@ module _ (xs : List Adding) (ss : List Store) (h : Writing) where
   abbrev Behind : Call → Type 0
   Behind c = Stage (xs ++ accepted w c) (ss ++ stores w c) (after h c)
 
-  -- a call that changes no block, whatever table it leaves with the rows in front
-  behind-idle : (c : Call) → Idle w (next w c) → stores w c ≡ [] → accepted w c ≡ []
-      → (Between xs w (h .table) → Between xs w (tableAfter h c)) → Stage xs ss h → Behind c
+  -- a call that changes no block and no table
+  behind-idle : (c : Call) → Idle w (next w c) → stores w c ≡ [] → accepted w c ≡ [] → tableAfter h c ≡ h .table → Stage xs ss h → Behind c
   behind-idle c i s a k (fresh n x q) = rw (s, a, append-nil xs, append-nil ss) (fresh (i .turn ∙ n) x q)
   behind-idle c i s a k (amid b q) =
-      rw (s, a, append-nil xs, append-nil ss) (amid (idle-between xs w (next w c) (tableAfter h c) i (k b)) q)
+      rw (s, a, append-nil xs, append-nil ss) (amid (rw k (idle-between xs w (next w c) (h .table) i b)) q)
   behind-idle c i s a k (done z t d p q r) = rw (s, a, append-nil xs, append-nil ss) (done (i .turn ∙ z) t d p q r)
 
   begin-behind : (out : List ℕ) → Stage xs ss h → (v : Verdict) → firstBroken (beginRules w (length out)) ≡ v → Behind (begin out)
   unfolding accepted tableAfter openStores blockStores
-  begin-behind out g (broken n p) e = let i = begin-refused w out n p e in behind-idle (begin out) (i .0) (i .1) refl (λ b. b) g
+  begin-behind out g (broken n p) e = let i = begin-refused w out n p e in behind-idle (begin out) (i .0) (i .1) refl refl g
   begin-behind out (fresh n x s) sound e = rw (x, s, begin-stores w out e) (amid (begin-between w (h .table) out e) refl)
   begin-behind out (amid b s) sound e = absurd (never-both _ 17 0 (begin-turn w (length out) (begun-turn (w .turn) (b .turn) .0)) e)
   begin-behind out (done c t d p q s) sound e = absurd (never-both _ 17 0 (begin-turn w (length out) (closed-turn (w .turn) c .0)) e)
 
-  block-behind : (t : List ℕ) (a : Adding) (out : List ℕ) → Bytes (a .plain) × Bytes (a .stored) → Agrees h (block t a out) → Stage xs ss h → (v : Verdict)
+  block-behind : (t : List ℕ) (a : Adding) (out : List ℕ) → Bytes (a .plain) × Bytes (a .stored)
+      → (verdictFor w (block t a out) ≡ sound → Agrees h (block t a out)) → Stage xs ss h → (v : Verdict)
       → firstBroken (blockRules w a (length t) (length out)) ≡ v → Behind (block t a out)
-  unfolding tableAfter
+  unfolding verdictFor tableAfter blockOf
   block-behind t a out y m g (broken n p) e =
       let i = block-refused w t a out n p e in
-      behind-idle (block t a out) (i .0) (i .1) (i .2) (λ b. rw (i .3) (relent xs w (h .table) b t m)) g
+      behind-idle (block t a out) (i .0) (i .1) (i .2) (rw e) g
   block-behind t a out y m (fresh n x s) sound e = absurd (never-both _ 17 0 (block-turn w (new-turn (w .turn) n .1) t a out) e)
   block-behind t a out y m (amid b s) sound e =
-      let k = relent xs w (h .table) b t m in
+      let k = relent xs w (h .table) b t (m (rw e)) in
       rw (block-accepted w t a out e)
-      (amid (block-between xs w t k a out y e) (rw (s, block-is xs w t k a out y e, open-more xs a)))
+      (amid (rw e (block-between xs w t k a out y e)) (rw (s, block-is xs w t k a out y e, open-more xs a)))
   block-behind t a out y m (done c u d p q s) sound e = absurd (never-both _ 17 0 (block-turn w (closed-turn (w .turn) c .1) t a out) e)
 
-  close-behind : (t plain stored out : List ℕ) → Agrees h (close t plain stored out) → Stage xs ss h → (v : Verdict)
+  close-behind : (t plain stored out : List ℕ) → (verdictFor w (close t plain stored out) ≡ sound → Agrees h (close t plain stored out)) → Stage xs ss h
+      → (v : Verdict)
       → firstBroken (closeRules w t plain stored (length out)) ≡ v → Behind (close t plain stored out)
-  unfolding accepted tableAfter closed closedStores
+  unfolding verdictFor accepted tableAfter closeOf closed closedStores
   close-behind t plain stored out m g (broken n p) e =
       let i = close-refused w t plain stored out n p e in
-      behind-idle (close t plain stored out) (i .0) (i .1) refl (λ b. relent xs w (h .table) b t m) g
+      behind-idle (close t plain stored out) (i .0) (i .1) refl refl g
   close-behind t plain stored out m (fresh n x s) sound e = absurd (never-both _ 17 0 (close-turn w (new-turn (w .turn) n .1) t plain stored out) e)
   close-behind t plain stored out m (amid b s) sound e =
       let l = close-stored w t plain stored out e in
-      let k = relent xs w (h .table) b t m in
+      let k = relent xs w (h .table) b t (m (rw e)) in
       rw (append-nil xs)
       (done (ap (λ (v : Writer). v .turn) (close-leaves w t plain stored out e)) (b .taken) stored (l .0) (omega (arith, l .1))
       (rw (s, closing-is xs w t k plain stored out e)))
   close-behind t plain stored out m (done c u d p q s) sound e = absurd (never-both _ 17 0 (close-turn w (closed-turn (w .turn) c .1) t plain stored out) e)
 
-  stage-next : (c : Call) → Typed c → Agrees h c → Stage xs ss h → Behind c
+  stage-next : (c : Call) → Typed c → (verdictFor w c ≡ sound → Agrees h c) → Stage xs ss h → Behind c
   unfolding stores accepted tableAfter
   stage-next (begin out) t m g = begin-behind out g (firstBroken (beginRules w (length out))) refl
-  stage-next (name d bytes) t m g = behind-idle (name d bytes) (name-idle w d bytes) refl refl (λ b. b) g
-  stage-next (entry p u text fields) t m g = behind-idle (entry p u text fields) (entry-idle w p u text fields) refl refl (λ b. b) g
+  stage-next (name d bytes) t m g = behind-idle (name d bytes) (name-idle w d bytes) refl refl refl g
+  stage-next (entry p u text fields) t m g = behind-idle (entry p u text fields) (entry-idle w p u text fields) refl refl refl g
   stage-next (block u a out) t m g = block-behind u a out t m g (firstBroken (blockRules w a (length u) (length out))) refl
   stage-next (close u plain stored out) t m g = close-behind u plain stored out m g (firstBroken (closeRules w u plain stored (length out))) refl
 
@@ -276,12 +277,14 @@ unfolding Holds held addingOf accepted
 begin-holds w out sound e = rw (begin-stores w out e)
 begin-holds w out (broken n p) e = rw (begin-refused w out n p e .1)
 
-block-holds : (w : Writer) (t : List ℕ) (a : Adding) (out : List ℕ) (v : Verdict) → firstBroken (blockRules w a (length t) (length out)) ≡ v → Holds w (block t a out)
+block-holds : (w : Writer) (t : List ℕ) (a : Adding) (out : List ℕ) (v : Verdict) → firstBroken (blockRules w a (length t) (length out)) ≡ v
+    → Holds w (block t a out)
 unfolding Holds held addingOf
 block-holds w t a out sound e = rw (block-stores w t a out e, block-accepted w t a out e)
 block-holds w t a out (broken n p) e = let i = block-refused w t a out n p e in rw (i .1, i .2)
 
-close-holds : (w : Writer) (t plain stored out : List ℕ) (v : Verdict) → firstBroken (closeRules w t plain stored (length out)) ≡ v → Holds w (close t plain stored out)
+close-holds : (w : Writer) (t plain stored out : List ℕ) (v : Verdict) → firstBroken (closeRules w t plain stored (length out)) ≡ v
+    → Holds w (close t plain stored out)
 unfolding Holds held addingOf accepted closingStores
 close-holds w t plain stored out sound e = rw (close-stores w t plain stored out e)
 close-holds w t plain stored out (broken n p) e = rw (close-refused w t plain stored out n p e .1)

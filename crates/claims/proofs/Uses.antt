@@ -184,7 +184,7 @@ module _ (h : Writing) (es : List Entry) (os : List NamedEntry) (ns : List (List
   kept (block t b out) = block-kept t b out (firstBroken (blockRules w b (length t) (length out))) refl
   kept (close t plain stored out) = (a .named-are, a .known)
 
-  amid-next : (c : Call) → Typed c → Agrees h c → Amid (after h c) (openAfter es w c) (namedAfter os ns w c) (heldAfter ns w c)
+  amid-next : (c : Call) → Typed c → (verdictFor w c ≡ sound → Agrees h c) → Amid (after h c) (openAfter es w c) (namedAfter os ns w c) (heldAfter ns w c)
   amid-next c r m =
       let k = kept c in
       record { holding = holding-next h ns (a .holding) c m; opened = opened-next h es (a .opened) c r m; named-are = k .0; known = k .1 }
@@ -203,7 +203,8 @@ Pairs [] (b ∷ bs) fin = ⊥
 Pairs (a ∷ xs) [] fin = ⊥
 Pairs (a ∷ xs) (b ∷ bs) fin = Ended a b fin × Pairs xs bs fin
 
-pairs-append : (xs ys : List Adding) (bs cs : List (List NamedEntry)) (fin : List (List ℕ)) → Pairs xs bs fin → Pairs ys cs fin → Pairs (xs ++ ys) (bs ++ cs) fin
+pairs-append : (xs ys : List Adding) (bs cs : List (List NamedEntry)) (fin : List (List ℕ)) → Pairs xs bs fin → Pairs ys cs fin
+    → Pairs (xs ++ ys) (bs ++ cs) fin
 unfolding Pairs
 pairs-append [] ys [] cs fin p q = q
 pairs-append [] ys (b ∷ bs) cs fin p q = absurd p
@@ -342,7 +343,8 @@ module _ (cs : List Call) (f plain stored : List ℕ) (two : Finished f (addings
         start = start;
         entries = x .entries;
         steps = rw start (rw (count, same) at (r .steps));
-        named-are = x .named-are ∙ all-alike (length fin) (inList fin) (λ i. nameIn (lookupOf plain i) plain) (λ i l. sym (looks .by-number i l)) (x .entries) (x .known);
+        named-are = x .named-are
+            ∙ all-alike (length fin) (inList fin) (λ i. nameIn (lookupOf plain i) plain) (λ i l. sym (looks .by-number i l)) (x .entries) (x .known);
       }
 
   used : Used f cs plain stored

@@ -86,16 +86,16 @@ unfolding firstBroken holds numberOf rules.placeOf ruled le fromLe leAt splice s
 worked =
     record {
       fair = (
-        (tt, tt),
+        (tt, λ v. tt),
         (
-          (tt, λ none. absurd (not-suc-le-zero none)),
+          (tt, λ v none. absurd (not-suc-le-zero none)),
           (
-            (tt, λ some. refl),
+            (tt, λ v some. refl),
             (
-              ((lit< tt, bytes firstFields tt), refl),
+              ((lit< tt, bytes firstFields tt), λ v. refl),
               (
-                ((lit< tt, bytes secondFields tt), refl),
-                (((bytes (smallAdding .plain) tt, bytes (smallAdding .stored) tt), refl), ((tt, refl), tt)),
+                ((lit< tt, bytes secondFields tt), λ v. refl),
+                (((bytes (smallAdding .plain) tt, bytes (smallAdding .stored) tt), λ v. refl), ((tt, λ v. refl), tt)),
               ),
             ),
           ),

@@ -13,7 +13,8 @@ use borrow.Author.Tests.{le-leb, lt-leb}
 use Rattle.parts.specs.declared.IndexRow.{IndexRow}
 use Rattle.parts.specs.Parts.{emptyHeader, headerBytes, footerBytes}
 use Rattle.parts.proofs.Parts.{length-header}
-use Rattle.layout.specs.Layout.{Block, blockBytes, blockSize, blocksBytes, rowsFrom, dictionaryBytes, indexBytes, tailBytes, closedHeader, closingBytes, finishedBytes}
+use Rattle.layout.specs.Layout.{Block, blockBytes, blockSize, blocksBytes, rowsFrom, dictionaryBytes, indexBytes, tailBytes, closedHeader}
+use Rattle.layout.specs.Layout.{closingBytes, finishedBytes}
 use Rattle.layout.proofs.Parts.{length-block, length-dictionary, length-tail, length-closing}
 use Rattle.writer_blocks.specs.Block.{Adding, blockFor}
 use Rattle.disk.specs.Disk.{Store, headerStore, blockStore, dictionaryStore, endStore, storeBytes, total, headed, put, disk, finished}
@@ -98,7 +99,8 @@ module _ (k at : ℕ) (f : List ℕ) (rows : List IndexRow) (d : List ℕ) where
       rw (put-part k f (headerBytes (closedHeader at rows)) m (omega arith), length-header (closedHeader at rows), e)
       (disk-zero f (dictionaryStore d (dictionaryBytes d) ∷ endStore (indexBytes rows) ∷ endStore (footerBytes (record { index = at + 4 + length d })) ∷ []))
 
-  disk-closed : 64 ≤ k → disk k f (closingStores at rows d) ≡ headerBytes (closedHeader at rows) ++ (drop 64 f ++ take (k - 64) (tailBytes (at + 4 + length d) rows d))
+  disk-closed : 64 ≤ k
+      → disk k f (closingStores at rows d) ≡ headerBytes (closedHeader at rows) ++ (drop 64 f ++ take (k - 64) (tailBytes (at + 4 + length d) rows d))
   unfolding disk put headed storeBytes closingStores tailBytes
   disk-closed h = simp (length-header, le-leb, take-both, append-assoc)
 
@@ -214,7 +216,8 @@ module _ (cut : ℕ) (xs : List Adding) (ss : List Store) where
   unfolding openStores standing
   in-standing z = ap (λ (q : ℕ). standing (0 + q) cut (blockStores 0 xs ++ ss)) (length-header emptyHeader) ∙ standing-blocks 64 cut 0 xs ss z
 
-  disk-opened : 64 ≤ cut → disk cut [] (openStores xs ++ ss) ≡ disk (cut - 64 - length (blocksBytes 0 (map blockFor xs))) (first ++ take (cut - 64) (blocksBytes 0 (map blockFor xs))) ss
+  disk-opened : 64 ≤ cut
+      → disk cut [] (openStores xs ++ ss) ≡ disk (cut - 64 - length (blocksBytes 0 (map blockFor xs))) (first ++ take (cut - 64) (blocksBytes 0 (map blockFor xs))) ss
   unfolding openStores
   disk-opened h = disk-first cut (blockStores 0 xs ++ ss) h ∙ disk-blocks (cut - 64) 0 first xs ss
 
@@ -322,7 +325,8 @@ unfolding closedStores
 closed-bytes xs d =
     let bs = map blockFor xs in
     let D = endOf bs in
-    stores-append (openStores xs) (closingStores D (rowsFrom 64 bs) d) ∙ ap (λ (x : List ℕ). storesBytes (openStores xs) ++ x) (closing-bytes D (rowsFrom 64 bs) d)
+    stores-append (openStores xs) (closingStores D (rowsFrom 64 bs) d)
+    ∙ ap (λ (x : List ℕ). storesBytes (openStores xs) ++ x) (closing-bytes D (rowsFrom 64 bs) d)
 
 total-closed : (xs : List Adding) (d : List ℕ) → (
     let bs = map blockFor xs in

@@ -23,7 +23,8 @@ use Rattle.parts.proofs.HeaderRules.{written-sound}
 use Rattle.rows.specs.Rows.{stride, AllFit, tableBytes, firstTime, lastTime}
 use Rattle.rows.proofs.Rows.{rows-at, length-table, rows-put}
 use Rattle.blocks.specs.Blocks.{headAt, storedAt, blockRules, rowAt, endAlong}
-use Rattle.layout.specs.Layout.{Block, headOf, blockBytes, blockSize, blocksBytes, rowFor, rowsFrom, endFrom, dictionaryBytes, rowsBytes, indexBytes, tailBytes, closedHeader, finishedBytes}
+use Rattle.layout.specs.Layout.{Block, headOf, blockBytes, blockSize, blocksBytes, rowFor, rowsFrom, endFrom, dictionaryBytes, rowsBytes, indexBytes}
+use Rattle.layout.specs.Layout.{tailBytes, closedHeader, finishedBytes}
 use Rattle.layout.proofs.Parts.{length-block, length-dictionary, length-index, length-tail}
 use Rattle.layout.proofs.Along.{length-rows-from, end-from}
 use Rattle.layout.proofs.Back.{dictionary-size, index-mark, index-count}
@@ -231,7 +232,8 @@ module _ (bs : List Block) (d : List ℕ) (f : List ℕ) (l : Laid bs d f) where
   here-index : drop (indexOf bs d) f ≡ indexBytes (rowsFrom 64 bs) ++ footerOf bs d
   here-index =
       let e : indexOf bs d ≡ endOf bs + (4 + length d) = omega arith in
-      ap (λ (k : ℕ). drop k f) e ∙ behind f (dictionaryBytes d) (indexBytes (rowsFrom 64 bs) ++ footerOf bs d) (endOf bs) (4 + length d) here-dictionary (length-dictionary d)
+      ap (λ (k : ℕ). drop k f) e
+      ∙ behind f (dictionaryBytes d) (indexBytes (rowsFrom 64 bs) ++ footerOf bs d) (endOf bs) (4 + length d) here-dictionary (length-dictionary d)
 
   here-footer : drop (length f - 24) f ≡ footerOf bs d
   here-footer =

@@ -46,7 +46,8 @@ module _ (h : Header) (fits : HeaderFits h) (t : List ℕ) where
   limit-file : limitIn (headerBytes h ++ t) ≡ limitOf (h .dictionary) (length (headerBytes h ++ t))
   limit-file = rw (header-back h fits t)
 
-  pub accepted : 64 ≤ limitIn (headerBytes h ++ t) → limitIn (headerBytes h ++ t) ≤ length (headerBytes h ++ t) → firstBroken (recoverRules (headerBytes h ++ t)) ≡ sound
+  pub accepted : 64 ≤ limitIn (headerBytes h ++ t) → limitIn (headerBytes h ++ t) ≤ length (headerBytes h ++ t)
+      → firstBroken (recoverRules (headerBytes h ++ t)) ≡ sound
   unfolding recoverRules
   accepted a b =
       then-sound (headerRules (headerBytes h ++ t)) (offsetRules (limitIn (headerBytes h ++ t)) (length (headerBytes h ++ t))) (written-sound h t)

@@ -28,7 +28,8 @@ use Rattle.disk.specs.Disk.{Store, disk, finished, dictionariesInFull, s
 use Rattle.disk.proofs.Stores.{closedStores, Begun}
 use Rattle.disk.proofs.Full.{full, prefix}
 use Rattle.disk.proofs.Disk.{blocksIn, openFile, endOf, closedFile, Before, Behind, View, before, behind, view, finished-closed}
-use Rattle.disk.proofs.Recovers.{open-header, open-whole, closed-accepted, closed-offset, closed-count, behind-header, closed-report, closed-whole, closed-part, reports-open}
+use Rattle.disk.proofs.Recovers.{open-header, open-whole, closed-accepted, closed-offset, closed-count, behind-header, closed-report}
+use Rattle.disk.proofs.Recovers.{closed-whole, closed-part, reports-open}
 
 -- ---- the rules of repair
 

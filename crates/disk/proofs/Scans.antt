@@ -197,7 +197,8 @@ one-found : (at : ℕ) (b : Block) (bs : List Block) (v : Verdict) (s : Scan) �
 unfolding rowsFrom endFrom
 one-found at b bs v s i = record { rows = ap (λ (l : List IndexRow). rowFor at b ∷ l) (i .rows); end = i .end; stop = i .stop }
 
-take-blocks : (k n : ℕ) (b : Block) (bs : List Block) → blockSize b ≤ k → take k (blocksBytes n (b ∷ bs)) ≡ blockBytes n b ++ take (k - blockSize b) (blocksBytes (suc n) bs)
+take-blocks : (k n : ℕ) (b : Block) (bs : List Block) → blockSize b ≤ k
+    → take k (blocksBytes n (b ∷ bs)) ≡ blockBytes n b ++ take (k - blockSize b) (blocksBytes (suc n) bs)
 unfolding blocksBytes
 take-blocks k n b bs h = take-past k (blockSize b) (blockBytes n b) (blocksBytes (suc n) bs) (length-block n b) h
 
