@@ -148,6 +148,10 @@ hplog_listed hplog_list_next(const uint8_t *log, size_t log_len, const uint8_t *
  * Each call takes the state that the call before gave back, the first one that of hplog_writer_new, and gives the next back; on a refusal it is the
  * state that was taken. The bytes that begin, add_block and close write to out are the call's stores: the first header, the block, and last the
  * header again, which goes to the file's front, and dictionary, index and footer end to end, which go to its end.
+ * Each call may be lent another buffer than the call before, of any length, as long as it begins with what the state
+ * speaks of, as the call before left it: dictionary with the plain dictionary of the names held (with none, anything),
+ * payload with the plain bytes of the open block, rows with those of the blocks so far. So after a 12 lend a longer one
+ * with the same front; and once its block is added, payload may be used again.
  * Refusal of each: (17, 0) out of turn: begin comes once and first, close last and with no block open; also for a state with counts that no calls
  * leave. */
 
@@ -192,7 +196,7 @@ hplog_written hplog_add_block(hplog_writer state, uint8_t *rows, size_t rows_len
                               size_t plain_len, const uint8_t *stored, size_t stored_len, uint32_t names);
 
 /* Closes the file: count = the bytes of its last four stores, 64 of header, then dictionary, index and footer. rows are those that add_block left,
- * plain is the plain dictionary, stored its stored bytes.
+ * plain is the plain dictionary, stored its stored bytes. Other rows make a file that hplog_open refuses with 9.
  * Refusals in order: 17 (also for rows too short for the blocks); (6, stored_len) above 32 bits; (6, 0) for empty stored; 10; (6, names) for fewer
  * names than a block was given; 12. */
 hplog_written hplog_close(hplog_writer state, const uint8_t *rows, size_t rows_len, uint8_t *out, size_t out_len, const uint8_t *plain,

@@ -77,7 +77,8 @@ pub record Finished (f : List ℕ) (xs : List Adding) (plain stored : List ℕ) 
   pub opens : (table : List ℕ) → length xs * stride ≤ length table
       → Opening (openOf f (length table)) f table (openOut f table) stored (map blockFor xs)
   pub blocks : (table : List ℕ) → length xs * stride ≤ length table
-      → (before : List Adding) (a : Adding) (later : List Adding) → xs ≡ before ++ (a ∷ later) → Reading f (openOut f table) (length xs) (leAt 4 plain 0) before a
+      → (before : List Adding) (a : Adding) (later : List Adding) → xs ≡ before ++ (a ∷ later)
+      → Reading f (openOut f table) (length xs) (leAt 4 plain 0) before a
   -- "A finished file's [..] names are those of the plain bytes its [..] closing took": by the reader's rules of a plain
   -- dictionary, and by lookup
   pub accepted : dictionaryOf plain ≡ given (leAt 4 plain 0)

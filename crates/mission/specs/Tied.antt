@@ -23,8 +23,8 @@ use Rattle.claims.specs.Demand3.{Repair, Finishing, finishedBy, RecoversFrom, R
 
 -- ---- the writer's calls
 
--- a call that stores: its verdict, its state, the memory that it leaves, and its stores are read off what the function answers and
--- leaves
+-- a call that stores: its verdict, its state, the memory that it leaves, and its stores are read off what the function
+-- answers and leaves
 pub record Storing (w : Writer) (c : Call) (answer : Outcome Step) (kept out : List ℕ) : Type 0 where
   pub verdict : verdictFor w c ≡ verdictIn answer
   pub state : next w c ≡ ifGiven answer (λ s. s .next) w

@@ -1,5 +1,5 @@
-// Each call that the claims speak of, under a promise in the claims' own words: where a call's promise changes, these
-// no longer hold.
+// The calls that write, open, step, look up, recover and repair, each under a promise in the claims' own words: where a
+// call's promise changes, these no longer hold.
 mod reading;
 mod recovering;
 mod writing;

@@ -1,3 +1,3 @@
-// Each call for C that the claims speak of, under a promise in the words of crates/edge.
+// The calls for C that write, open, step, look up, recover and repair, each under a promise in the words of crates/edge.
 mod reading;
 mod writing;
