@@ -76,7 +76,7 @@ unfolding firstBroken holds numberOf rules.placeOf ruled le fromLe leAt splice s
     asField fieldAt valueAt valIn readFields entries.orderRules readEntry entriesFrom entriesOf lastTime packField packFields fieldIn fieldsIn fieldSize
     fieldsSize entrySize entryBytes partRight textRules packing.fieldRules packing.roomRules sizedRules packRules recordsIn valueFor recordAt recordsFrom
     fieldsOf nameAt nextAt dictionary.placeOf dictionary.nameOf held shapeRules newRule namesRules dictionary.dictionaryRules seekFrom printable printRules
-    labelRules labelOf labelBytes labelOut listed chosen query.orderRules queryRules queryOf queryOut frame.dictionaryRules wholeDictionary frameOf placeRules
+    labelRules labelOf labelBytes labelOut listed chosen query.orderRules query.countRules queryRules queryOf queryOut frame.dictionaryRules wholeDictionary frameOf placeRules
     indexSize lengthRules indexRules footerRules frameRules indexRows rowRules blocksRules afterRules rowsIn openRules reader.roomRules reader.callRules
     openOf limitOf offsetRules recoverRules reportOf recovery.roomRules recovery.callRules recoverOf isNew isBegun isOpen boundRules begunRules firstBytes
     beginRules beginOf beginOut heldAs newRules nameRules withName name.nameOf nameBytes appended nameOut startFor earliestFor deltaFor timeRules entryRules

@@ -12,6 +12,7 @@ use Rattle.verdict.specs.Rules.{sound, firstBroken, given}
 use Rattle.verdict.proofs.Laws.{first-none, then-sound}
 use Rattle.wire.specs.Wire.{le, leAt, splice}
 use Rattle.wire.proofs.Numbers.{length-le, leAt-drop}
+use Rattle.wire.proofs.Splices.{length-splice}
 use Rattle.crc32.specs.Crc.{crc32}
 use Rattle.parts.specs.declared.IndexRow.{IndexRow}
 use Rattle.parts.specs.declared.Footer.{Footer}
@@ -343,7 +344,8 @@ row-tabled rows table n i e h room fit =
     let m : length rows * stride ≤ length table = omega (arith, length-table rows) in
     let after = splice table 0 (tableBytes rows) in
     let r = rows-at (length rows) after i (omega arith) in
-    sym (row-there after n i h) ∙ ap given (sym r ∙ ap (λ (rs : List IndexRow). getD rs i emptyRow) (rows-put rows table m fit))
+    let l : length after ≡ length table = length-splice table 0 (tableBytes rows) in
+    sym (row-there after n i h (omega arith)) ∙ ap given (sym r ∙ ap (λ (rs : List IndexRow). getD rs i emptyRow) (rows-put rows table m fit))
 
 module _ (bs : List Block) (v : Valid 0 bs) (few : length bs ≤ 4096) (d : List ℕ) (some : 1 ≤ length d) (fits : length d < 256 ^ 4) where
   pub open-finished : firstBroken (openRules crc32 (finishedFile bs d)) ≡ sound

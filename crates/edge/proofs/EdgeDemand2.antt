@@ -2,14 +2,14 @@
 use mathlib.Core.Path.{_≡_, refl, sym, ap, subst, _∙_, fun-ext}
 use mathlib.Core.Bool.{true, false}
 use mathlib.Core.List.{List, [], _∷_, _++_, map}
-use Prim.Native.Nat.{ℕ, zero, suc, _+_}
+use Prim.Native.Nat.{ℕ, zero, suc, _+_, _/_}
 use lib.Dec.{ltb}
 use lib.ListN.{length, getD, length-map}
 use Rattle.verdict.specs.Rules.{flag, sound, firstBroken, Outcome, given, refused}
 use Rattle.verdict.proofs.Laws.{first-none, equal-holds, least-holds, then-sound, settle-given}
 use Rattle.wire.specs.Wire.{leAt, part}
 use Rattle.parts.specs.declared.IndexRow.{IndexRow}
-use Rattle.rows.specs.Rows.{rowAt}
+use Rattle.rows.specs.Rows.{stride, rowAt}
 use Rattle.layout.specs.Layout.{rowFor}
 use Rattle.cursor.specs.Model as model
 use Rattle.cursor.specs.Answers.{valIn}
@@ -131,7 +131,9 @@ module _ (f rows frame stored : List ℕ) (xs : List Adding) (l : Lends rows fra
 
 row-located : (table : List ℕ) (blocks i : ℕ) (row : IndexRow) → rowIn table blocks i ≡ given row → rowAt table i ≡ row
 unfolding rowIn
-row-located table blocks i row e = sym (settle-given (firstBroken (flag 14 i (ltb i blocks) ∷ [])) (rowAt table i) row (sym e) .1)
+row-located table blocks i row e =
+    let rules = flag 14 i (ltb i blocks) ∷ flag 14 i (ltb i (length table / stride)) ∷ [] in
+    sym (settle-given (firstBroken rules) (rowAt table i) row (sym e) .1)
 
 edge-block : (f rows : List ℕ) (blocks names : ℕ) (before : List Adding) (a : Adding) (r : Reading f rows blocks names before a)
     → EdgeBlock f rows names (length before) a (r .entries)

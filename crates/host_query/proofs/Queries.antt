@@ -9,7 +9,7 @@ use Rattle.verdict.proofs.Laws.{equal-holds, equal-breaks, least-holds, least-b
 use Rattle.wire.specs.Wire.{splice}
 use Rattle.rows.specs.Rows.{stride}
 use Rattle.query.specs.Query.{rowRules, countOf}
-use Rattle.query.proofs.Rules.{count-refuses, count-gives}
+use Rattle.query.proofs.Rules.{count-refuses, count-gives, counted-rows}
 use Rattle.answer.specs.declared.Answer.{Answer}
 use Rattle.answer.specs.Answer.{answered}
 use Rattle.host_query.specs.Query.{epoch, hostRows, hostChosen, numbersBytes, hostQueryRules, hostQueryOf, hostQueryOut}
@@ -47,7 +47,7 @@ module _ (rows : List ℕ) (t1 t2 : ℕ) where
           pub query-refuses : (n p : ℕ) → refused n p ≡ countOf (hostRows rows) (epoch t1) (epoch t2) → r ≡ answered (refused n p) → Queries r numbers
           query-refuses n p e a =
               settled (broken n p) r
-              (rules ∙ then-broken (rowRules (hostRows rows)) last n p (count-refuses (hostRows rows) (epoch t1) (epoch t2) n p e)) a
+              (rules ∙ then-broken (rowRules (hostRows rows)) last n p (count-refuses (hostRows rows) (epoch t1) (epoch t2) times n p e)) a
 
           module _ (k : ℕ) (e : given k ≡ countOf (hostRows rows) (epoch t1) (epoch t2)) where
             pub query-short : length numbers < 4 * k → r ≡ answered (refused 12 (4 * k)) → Queries r numbers
@@ -55,7 +55,7 @@ module _ (rows : List ℕ) (t1 t2 : ℕ) where
                 let s = count-gives (hostRows rows) (epoch t1) (epoch t2) k e in
                 let g : length numbers < 4 * length (hostChosen rows t1 t2) = omega (arith, h, s .1) in
                 settled (broken 12 (4 * length (hostChosen rows t1 t2))) r
-                (rules ∙ then-sound (rowRules (hostRows rows)) last (s .0) ∙ least-breaks _ _ _ _ _ g)
+                (rules ∙ then-sound (rowRules (hostRows rows)) last (counted-rows (hostRows rows) (epoch t1) (epoch t2) k e) ∙ least-breaks _ _ _ _ _ g)
                 (a ∙ ap (λ (m : ℕ). answered (refused 12 (4 * m))) (s .1))
 
             pub query-gives : (out : List ℕ) → 4 * k ≤ length numbers → out ≡ splice numbers 0 (numbersBytes (hostChosen rows t1 t2))
@@ -64,5 +64,6 @@ module _ (rows : List ℕ) (t1 t2 : ℕ) where
                 let s = count-gives (hostRows rows) (epoch t1) (epoch t2) k e in
                 let g : 4 * length (hostChosen rows t1 t2) ≤ length numbers = omega (arith, h, s .1) in
                 rw w
-                (settled sound r (rules ∙ then-sound (rowRules (hostRows rows)) last (s .0) ∙ least-holds _ _ _ _ _ g ∙ first-none)
+                (settled sound r
+                (rules ∙ then-sound (rowRules (hostRows rows)) last (counted-rows (hostRows rows) (epoch t1) (epoch t2) k e) ∙ least-holds _ _ _ _ _ g ∙ first-none)
                 (a ∙ ap (λ (m : ℕ). answered (given m)) (s .1)))

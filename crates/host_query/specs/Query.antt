@@ -1,13 +1,12 @@
 -- The choice of blocks at the C edge. Assumes nothing.
 use mathlib.Core.List.{List, [], _∷_, _++_}
-use Prim.Native.Nat.{ℕ, _*_, _/_}
+use Prim.Native.Nat.{ℕ, _*_}
 use lib.ListN.{length}
 use Rattle.verdict.specs.Rules.{Rule, atLeast, atMost, ifSound, firstBroken, settle}
 use Rattle.wire.specs.Wire.{le, splice}
 use Rattle.parts.specs.declared.IndexRow.{IndexRow}
 use Rattle.parts.specs.declared.time.Epoch.{Epoch}
-use Rattle.rows.specs.Rows.{stride, rowsOf}
-use Rattle.query.specs.Query.{chosen, rowRules}
+use Rattle.query.specs.Query.{chosen, tableRows, rowRules}
 use Rattle.answer.specs.declared.Answer.{Answer}
 use Rattle.answer.specs.Answer.{answered}
 use Rattle.answer.specs.Rules.{wholeRows}
@@ -17,7 +16,7 @@ epoch t = record { 0 = t }
 
 -- all of the lent rows
 abbrev pub hostRows : List ℕ → List IndexRow
-hostRows rows = rowsOf (length rows / stride) rows
+hostRows rows = tableRows rows
 
 abbrev pub hostChosen : (rows : List ℕ) (t1 t2 : ℕ) → List ℕ
 hostChosen rows t1 t2 = chosen (epoch t1) (epoch t2) 0 (hostRows rows)

@@ -55,7 +55,7 @@ pub extern "C" fn hplog_query(rows: &[u8], t1: u64, t2: u64, numbers: &mut [u8])
     if n % rows::STRIDE != 0 {
         return answer::refuse(6, n as u64);
     }
-    let r = query::count(rows, n / rows::STRIDE, Epoch(t1), Epoch(t2));
+    let r = query::count(rows, Epoch(t1), Epoch(t2));
     match r {
         Queried::Refused(w) => answer::refused(w),
         Queried::Listed(k) => {

@@ -2,7 +2,7 @@
 use mathlib.Core.Path.{_≡_, refl}
 use mathlib.Core.Bool.{Bool, true, false, cond}
 use mathlib.Core.List.{List, [], _∷_}
-use Prim.Native.Nat.{ℕ, zero, suc, _+_}
+use Prim.Native.Nat.{ℕ, zero, suc, _+_, _/_}
 use lib.Dec.{ltb, eqb}
 use lib.ListN.{length}
 use Rattle.verdict.specs.Rules.{Rule, flag, numberOf, Verdict, sound, broken, firstBroken, Outcome, given, refused, settle, onGiven, verdictIn, ruled}
@@ -29,6 +29,7 @@ use Rattle.lookup.specs.Lookup.{Found, numbered, missing, lookupOf}
 use Rattle.label.specs.Label.{labelOf}
 use Rattle.frame.specs.Frame as frame
 use Rattle.reader.specs.Open as reader
+use Rattle.rows.specs.Rows.{stride}
 use Rattle.access.specs.Access as access
 use Rattle.query.specs.Query as query
 use Rattle.slices.specs.Slices as slices
@@ -152,16 +153,16 @@ rows-numbered i t [] = refl
 rows-numbered i t (r ∷ rows) = rows-numbered (i + 1) (r .end) rows
 
 count-listed : (rows : List IndexRow) (t1 t2 : Epoch) → Listed (verdictIn (query.countOf rows t1 t2))
-unfolding query.countOf allListed numberOf
-count-listed rows t1 t2 = settled (query.rowRules rows) _ (rows-numbered 0 query.earliest rows)
+unfolding query.countOf query.countRules allListed numberOf
+count-listed rows t1 t2 = settled (query.countRules rows t1 t2) _ (rows-numbered 0 query.earliest rows)
 
 query-numbered : (rows : List IndexRow) (t1 t2 : Epoch) (room : ℕ) → allListed (query.queryRules rows t1 t2 room) ≡ true
-unfolding query.queryRules allListed numberOf
+unfolding query.queryRules query.countRules allListed numberOf
 query-numbered rows t1 t2 room = both (query.orderRules 0 query.earliest rows) _ (rows-numbered 0 query.earliest rows) refl
 
 row-listed : (table : List ℕ) (n i : ℕ) → Listed (verdictIn (access.rowIn table n i))
 unfolding access.rowIn allListed numberOf
-row-listed table n i = settled (flag 14 i (ltb i n) ∷ []) _ refl
+row-listed table n i = settled (flag 14 i (ltb i n) ∷ flag 14 i (ltb i (length table / stride)) ∷ []) _ refl
 
 slice-row-listed : (rows : List IndexRow) (i : ℕ) → Listed (verdictIn (slices.rowIn rows i))
 unfolding slices.rowIn allListed numberOf

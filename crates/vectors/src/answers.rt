@@ -217,7 +217,7 @@ pub fn query(s: &[u8], out: &mut [u8]) -> usize
     let to = Epoch(wire::u64_at(s, 8));
     let table = wire::part_at(s, 16, s.len());
     let mut numbers = [4_294_967_295u32; 4];
-    let q = query::query(table, table.len() / 28, from, to, &mut numbers);
+    let q = query::query(table, from, to, &mut numbers);
     queried(q, &numbers, out)
 }
 
