@@ -6,10 +6,10 @@ use Rattle.host_reader.proofs.hplog_field.Statement.{statement}
 use Rattle.host_reader.proofs.hplog_field.Tie as tie
 
 returns : tie.Need-returns
-returns c = let k = c .before .before in c .field-read .ensures ∙ ap fieldAnswer (rw (k .r .given .1) at (k .before .before .field .ensures))
+returns c = let k = c .before .before in c .field-read .ensures ∙ ap fieldAnswer (rw (k .r .given .1) at (k .before .before .field .ensures .0))
 
 returns-2 : tie.Need-returns-2
-returns-2 c = let k = c .before .before in ap fieldAnswer (rw (k .r2 .given .1) at (k .before .before .field .ensures))
+returns-2 c = let k = c .before .before in ap fieldAnswer (rw (k .r2 .given .1) at (k .before .before .field .ensures .0))
 
 pub hplog-field-spec : {M : Type 1} → statement M
 hplog-field-spec =
