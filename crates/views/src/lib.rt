@@ -2,6 +2,7 @@
 //   open, open-in ROOM           log, D, stored size, index offset, blocks, first and last time; then a line for each row: start, end, offset, stored size
 //   recover, recover-in ROOM     found, blocks, the end of the last, the number and place that stopped it, whole or none; then the rows
 //   table                        the CRC-32 of the table
+//   scan LIMIT                   scanned, blocks up to LIMIT, the end of the last, the number and place that stopped it
 //   glance                       open's answer and recover's, on a line, without rows
 //   cuts                         the same for the first k bytes of the file, for each k up to its length, behind k
 //   stored I, dictionary         the stored bytes of block I or of the dictionary of the file
@@ -20,6 +21,7 @@ enum Looking {
     OpenIn,
     Recover,
     RecoverIn,
+    Scan,
     Glance,
     Cuts,
     Stored,
@@ -32,19 +34,20 @@ enum Looking {
 
 fn named(name: &[u8]) -> Looking {
     let names =
-        b"open open-in recover recover-in glance cuts stored stored-at dictionary bytes table";
+        b"open open-in recover recover-in scan glance cuts stored stored-at dictionary bytes table";
     match text::place(names, name) {
         0 => Looking::Open,
         1 => Looking::OpenIn,
         2 => Looking::Recover,
         3 => Looking::RecoverIn,
-        4 => Looking::Glance,
-        5 => Looking::Cuts,
-        6 => Looking::Stored,
-        7 => Looking::StoredAt,
-        8 => Looking::Dictionary,
-        9 => Looking::Bytes,
-        10 => Looking::Table,
+        4 => Looking::Scan,
+        5 => Looking::Glance,
+        6 => Looking::Cuts,
+        7 => Looking::Stored,
+        8 => Looking::StoredAt,
+        9 => Looking::Dictionary,
+        10 => Looking::Bytes,
+        11 => Looking::Table,
         _ => Looking::Unknown,
     }
 }
@@ -70,6 +73,7 @@ pub fn look(line: &[u8], f: &[u8], table: &mut [u8]) {
         Looking::OpenIn => reading::open_in(f, table, n as usize),
         Looking::Recover => reading::recover_in(f, table, all),
         Looking::RecoverIn => reading::recover_in(f, table, n as usize),
+        Looking::Scan => print::scanned(blocks::scan(f, n as usize)),
         Looking::Glance => reading::glance(f, table),
         Looking::Cuts => reading::cuts(f, table),
         Looking::Stored => reading::stored(f, table, n),

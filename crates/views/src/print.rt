@@ -1,4 +1,5 @@
 // What the library answers of a file, printed.
+use blocks::Scanned;
 use frame::Frame;
 use libc::STDOUT_FILENO;
 use parts::Epoch;
@@ -98,13 +99,25 @@ fn wholeness(whole: bool) {
     say(b" none");
 }
 
+// How many blocks, the end of the last, and what stopped the scan.
+fn blocks_found(blocks: u32, end: u64, v: Checked) {
+    number(blocks as u64);
+    number(end);
+    stop(v);
+}
+
 fn report(r: Report) {
     let v = r.stop;
     say(b"found");
-    number(r.blocks as u64);
-    number(r.end);
-    stop(v);
+    blocks_found(r.blocks, r.end, v);
     wholeness(r.whole);
+}
+
+pub fn scanned(s: Scanned) {
+    let v = s.stop;
+    say(b"scanned");
+    blocks_found(s.blocks, s.end, v);
+    end_line();
 }
 
 pub fn recovered(r: Recovered) {
