@@ -55,7 +55,8 @@ typedef struct {
 
 /* Opens a finished file: checks all of it, writes its rows to rows and its frame to frame; count = rows.
  * A frame: five u64: place of the dictionary's length field, the dictionary's stored size, place of the index, first time, last time.
- * Refusals in order: (6, rows_len) where rows_len is no multiple of 28; 1 to 9 as document 01 orders open's checks; 12 for rows; 12 for frame. */
+ * rows may have any length; what is behind its rows stays as it is.
+ * Refusals in order: 1 to 9 as document 01 orders open's checks; 12 for rows; 12 for frame. */
 hplog_answer hplog_open(const uint8_t *log, size_t log_len, uint8_t *rows, size_t rows_len, uint8_t *frame, size_t frame_len);
 
 /* Lists the blocks that meet the times from t1 to t2 (a row's end at least t1, its start at most t2): writes their numbers, ascending, as u32 each
@@ -66,9 +67,8 @@ hplog_answer hplog_query(const uint8_t *rows, size_t rows_len, uint64_t t1, uint
 
 /* Finds the whole blocks of a file that may be damaged or cut: writes their rows to rows and a report to report; count = rows.
  * A report: four u64: end of the last whole block (64 with none), number and place of what stopped the scan (0 and 0 for a clean end), 1 where a
- * whole dictionary stands at the header's offset, else 0.
- * Refusals in order: (6, rows_len) where rows_len is no multiple of 28; 1, 2, 3, 4 of the header; (6, 10) for its dictionary offset; 12 for rows;
- * 12 for report. */
+ * whole dictionary stands at the header's offset, else 0. rows may have any length, as in hplog_open.
+ * Refusals in order: 1, 2, 3, 4 of the header; (6, 10) for its dictionary offset; 12 for rows; 12 for report. */
 hplog_answer hplog_recover(const uint8_t *log, size_t log_len, uint8_t *rows, size_t rows_len, uint8_t *report, size_t report_len);
 
 /* Writes the finished file of a damaged one to out; count = its bytes. dictionary is the stored dictionary to use where the file has none that is

@@ -109,7 +109,7 @@ static void small_file(void) {
     static const uint8_t stored[] = {0xAA, 0xBB, 0xCC}, stored_names[] = {0x5A}, letters[] = {'B', '7'};
     const uint8_t *site = (const uint8_t *)"site", *wet = (const uint8_t *)"wet";
     uint8_t log[176], last[137], names[19], plain[26], rows[HPLOG_ROW], found[HPLOG_ROW], frame[HPLOG_FRAME], report[HPLOG_REPORT], fixed[176];
-    uint8_t fields[2 * HPLOG_FIELD], numbers[4], panel[HPLOG_PANEL], book[58], out[HPLOG_PIECE + 100];
+    uint8_t room[65536], fields[2 * HPLOG_FIELD], numbers[4], panel[HPLOG_PANEL], book[58], out[HPLOG_PIECE + 100];
     size_t listed = 0;
     hplog_written written = calls.begin(calls.writer_new(), log, HPLOG_HEADER);
     hplog_listed piece;
@@ -145,6 +145,12 @@ static void small_file(void) {
     check(accepted(calls.open(log, sizeof log, found, sizeof found, frame, sizeof frame), 1), "open");
     check(memcmp(rows, found, sizeof rows) == 0, "open gives the writer's rows");
     check(frame[0] == 103 && frame[8] == 1 && frame[16] == 108, "open's frame");
+    memset(room, 0x5A, sizeof room);
+    check(accepted(calls.open(log, sizeof log, room, sizeof room, frame, sizeof frame), 1), "open with room to spare");
+    check(memcmp(rows, room, sizeof rows) == 0 && room[HPLOG_ROW] == 0x5A, "open leaves what is behind the rows");
+    check(accepted(calls.recover(log, 103, room, sizeof room, report, sizeof report), 1), "recover with room to spare");
+    check(refused(calls.open(log, 10, room, HPLOG_ROW - 1, frame, sizeof frame), 1, 10), "open of a short file");
+    check(refused(calls.recover(log, 10, room, HPLOG_ROW - 1, report, sizeof report), 1, 10), "recover of a short file");
     check(accepted(calls.query(rows, sizeof rows, 0, 999, numbers, sizeof numbers), 0), "K5, before the block");
     check(accepted(calls.query(rows, sizeof rows, 0, 1000, numbers, sizeof numbers), 1), "K5, its start");
     check(accepted(calls.query(rows, sizeof rows, 1006, 2000, numbers, sizeof numbers), 0), "K6, behind the block");

@@ -165,14 +165,3 @@ pub fn awkward(random: &mut Random, need: usize) -> usize {
         _ => need,
     }
 }
-
-/// The same for a table of rows, which is a multiple of 28 bytes but for a few.
-pub fn awkward_rows(random: &mut Random, need: usize) -> usize {
-    match random.below(12) {
-        0 => awkward(random, need),
-        1 => need.saturating_sub(28),
-        2 => 0,
-        3..=5 => need + 28 * (1 + random.below(3)),
-        _ => need,
-    }
-}

@@ -1,3 +1,2 @@
 -- The definitions of what the calls of the C edge answer. Assumes nothing.
 pub mod Answer
-pub mod Rules

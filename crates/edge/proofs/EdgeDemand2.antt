@@ -6,7 +6,7 @@ use Prim.Native.Nat.{ℕ, zero, suc, _+_, _/_}
 use lib.Dec.{ltb}
 use lib.ListN.{length, getD, length-map}
 use Rattle.verdict.specs.Rules.{flag, sound, firstBroken, Outcome, given, refused}
-use Rattle.verdict.proofs.Laws.{first-none, equal-holds, least-holds, then-sound, settle-given}
+use Rattle.verdict.proofs.Laws.{first-none, least-holds, then-sound, settle-given}
 use Rattle.wire.specs.Wire.{leAt, part}
 use Rattle.parts.specs.declared.IndexRow.{IndexRow}
 use Rattle.rows.specs.Rows.{stride, rowAt}
@@ -108,7 +108,7 @@ module _ (f rows frame stored : List ℕ) (xs : List Adding) (l : Lends rows fra
 
   host-opened : firstBroken (hostOpenRules f (length rows) (length frame)) ≡ sound
   unfolding hostOpenRules
-  host-opened = equal-holds _ _ _ _ _ (l .whole) ∙ then-sound (callRules f (length rows)) _ (opened .0) ∙ least-holds _ _ _ _ _ (l .frame-room) ∙ first-none
+  host-opened = then-sound (callRules f (length rows)) _ (opened .0) ∙ least-holds _ _ _ _ _ (l .frame-room) ∙ first-none
 
   rows-same : hostOpenRows f rows (length frame) ≡ openOut f rows
   unfolding hostOpenRows openOut

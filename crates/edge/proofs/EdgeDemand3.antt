@@ -2,11 +2,10 @@
 use mathlib.Core.Path.{_≡_, sym, ap, _∙_}
 use mathlib.Core.Bool.{Bool}
 use mathlib.Core.List.{List, [], _∷_, _++_, map}
-use Prim.Native.Nat.{ℕ, _%_, _≤_}
+use Prim.Native.Nat.{ℕ, _≤_}
 use lib.ListN.{length}
 use Rattle.verdict.specs.Rules.{Verdict, sound, broken, firstBroken, refused}
-use Rattle.verdict.proofs.Laws.{first-none, equal-holds, least-holds, then-sound, then-broken, settle-given, settle-refused}
-use Rattle.rows.specs.Rows.{stride}
+use Rattle.verdict.proofs.Laws.{first-none, least-holds, then-sound, then-broken, settle-given, settle-refused}
 use Rattle.layout.specs.Layout.{Block}
 use Rattle.layout.proofs.Along.{length-rows-from}
 use Rattle.writer.specs.State.{newWriter}
@@ -24,7 +23,7 @@ use Rattle.edge.proofs.Edge.{edge-refines}
 
 -- ---- recovery and repair as calls
 
-module _ (f rows report : List ℕ) (even : length rows % stride ≡ 0) where
+module _ (f rows report : List ℕ) where
   edge-recovery : (bs : List Block) (stop : Verdict) (whole : Bool) → 32 ≤ length report
       → Recovery (recoverOf f (length rows)) rows (recoverOut f rows) bs stop whole
       → EdgeRecovery f rows report bs stop whole
@@ -32,7 +31,7 @@ module _ (f rows report : List ℕ) (even : length rows % stride ≡ 0) where
   edge-recovery bs stop whole l r =
       let g = settle-given (firstBroken (callRules f (length rows))) (reportOf f) _ (sym (r .gives)) in
       let h : firstBroken (hostRecoverRules f (length rows) (length report)) ≡ sound =
-      equal-holds _ _ _ _ _ even ∙ then-sound (callRules f (length rows)) _ (g .0) ∙ least-holds _ _ _ _ _ l ∙ first-none in
+      then-sound (callRules f (length rows)) _ (g .0) ∙ least-holds _ _ _ _ _ l ∙ first-none in
       record {
         answers = rw (h, ← g .1, length-rows-from 64 bs);
         leaves-rows = rw (h, ← g .1);
@@ -44,7 +43,7 @@ module _ (f rows report : List ℕ) (even : length rows % stride ≡ 0) where
   edge-unread n p e =
       let b = settle-refused (firstBroken (callRules f (length rows))) (reportOf f) n p (sym e) in
       let h : firstBroken (hostRecoverRules f (length rows) (length report)) ≡ broken n p =
-      equal-holds _ _ _ _ _ even ∙ then-broken (callRules f (length rows)) _ n p b in
+      then-broken (callRules f (length rows)) _ n p b in
       record { answers = rw h; leaves-rows = rw h; leaves-report = rw h }
 
 edge-repair : (f lent out file : List ℕ) (kept : ℕ) → Repair (repairOf f lent (length out)) out (repairOut f lent out) file kept → EdgeRepair f lent out file
@@ -68,7 +67,7 @@ unfolding RecoversFrom RepairsWhole
 edge-at-cut ss cut a =
     let f = disk cut [] ss in
     record {
-      recovery = λ rows report even room l. edge-recovery f rows report even (map blockFor (addingsInFull cut ss)) _ _ l (a .recovery rows room);
+      recovery = λ rows report room l. edge-recovery f rows report (map blockFor (addingsInFull cut ss)) _ _ l (a .recovery rows room);
       own = λ w lent out room. edge-repair f lent out (finished ss) _ (a .own w lent out room);
       lent = λ w lent q r. edge-finishes f (addingsInFull cut ss) lent (a .lent w lent q r);
     }
@@ -79,5 +78,5 @@ pub edge-demand-3 : EdgeDemand3
 edge-demand-3 =
     record {
       at-cut = λ cs fair cut. rw (edge-refines .stores cs) (λ stands. edge-at-cut (run newWriter cs) cut (demand-3 .at-cut cs fair cut stands));
-      short = λ cs cut rows report even. rw (edge-refines .stores cs) (λ h. edge-unread _ rows report even 1 _ (demand-3 .short cs cut (length rows) h));
+      short = λ cs cut rows report. rw (edge-refines .stores cs) (λ h. edge-unread _ rows report 1 _ (demand-3 .short cs cut (length rows) h));
     }

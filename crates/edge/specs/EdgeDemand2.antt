@@ -2,7 +2,7 @@
 -- by hplog_delta, hplog_count and hplog_field, and named by hplog_names and hplog_name. Assumes nothing.
 use mathlib.Core.Path.{_≡_}
 use mathlib.Core.List.{List, [], _∷_, _++_, map}
-use Prim.Native.Nat.{ℕ, zero, suc, _+_, _*_, _%_, _≤_, _<_}
+use Prim.Native.Nat.{ℕ, zero, suc, _+_, _*_, _≤_, _<_}
 use lib.Dec.{eqb}
 use lib.ListN.{length, getD}
 use Rattle.verdict.specs.Rules.{given, refused}
@@ -80,9 +80,8 @@ pub record EdgeNames (dictionary : List ℕ) (count : ℕ) (name : ℕ → List 
 
 -- ---- opening, and a block
 
--- what hplog_open is lent: whole rows, enough of them, and room for a frame
+-- what hplog_open is lent: room for the rows and for a frame
 pub record Lends (rows frame : List ℕ) (blocks : ℕ) : Type 0 where
-  pub whole : length rows % stride ≡ 0
   pub room : blocks * stride ≤ length rows
   pub frame-room : 40 ≤ length frame
 

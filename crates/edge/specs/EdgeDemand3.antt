@@ -3,7 +3,7 @@
 use mathlib.Core.Path.{_≡_}
 use mathlib.Core.Bool.{Bool, true, false}
 use mathlib.Core.List.{List, [], _∷_, _++_, map}
-use Prim.Native.Nat.{ℕ, _*_, _%_, _^_, _≤_, _<_}
+use Prim.Native.Nat.{ℕ, _*_, _^_, _≤_, _<_}
 use lib.ListN.{length, take}
 use Rattle.verdict.specs.Rules.{Verdict, given, refused}
 use Rattle.wire.specs.Wire.{splice}
@@ -50,11 +50,9 @@ pub record EdgeFinishes (f : List ℕ) (xs : List Adding) (stored : List ℕ) : 
       → EdgeRepair f stored out (hostFinished xs stored c)
   pub calls : Finishing xs stored
 
--- of stores and a cut that leaves the first 64 bytes, with rows of a length that hplog_recover takes and room for its
--- report
+-- of stores and a cut that leaves the first 64 bytes, with room for the rows and the report of hplog_recover
 pub record EdgeAtCut (ss : List Store) (cut : ℕ) : Type 0 where
-  pub recovery : (rows report : List ℕ) → length rows % stride ≡ 0
-      → length (addingsInFull cut ss) * stride ≤ length rows → 32 ≤ length report → (
+  pub recovery : (rows report : List ℕ) → length (addingsInFull cut ss) * stride ≤ length rows → 32 ≤ length report → (
       let bs = map blockFor (addingsInFull cut ss) in
       let stop = stopFor (endFrom 64 bs) (standing 0 cut ss) in
       EdgeRecovery (disk cut [] ss) rows report bs stop (some (dictionariesInFull cut ss)))
@@ -67,5 +65,5 @@ pub record EdgeAtCut (ss : List Store) (cut : ℕ) : Type 0 where
 pub record EdgeDemand3 : Type 0 where
   pub at-cut : (cs : List Call) → Fair newWriting cs → (cut : ℕ) → 64 ≤ length (disk cut [] (hostRun newState cs))
       → EdgeAtCut (hostRun newState cs) cut
-  pub short : (cs : List Call) (cut : ℕ) (rows report : List ℕ) → length rows % stride ≡ 0 → (
+  pub short : (cs : List Call) (cut : ℕ) (rows report : List ℕ) → (
       let f = disk cut [] (hostRun newState cs) in length f < 64 → EdgeUnread f rows report 1 (length f))

@@ -1,10 +1,10 @@
 -- Laws of opening at the C edge: what each part of the call decides, and what is handed back and written then. Assumes nothing.
 use mathlib.Core.Path.{_≡_, refl, sym, ap, _∙_}
 use mathlib.Core.List.{List, _++_}
-use Prim.Native.Nat.{ℕ, _*_, _%_, _≤_, _<_}
+use Prim.Native.Nat.{ℕ, _*_, _≤_, _<_}
 use lib.ListN.{length}
 use Rattle.verdict.specs.Rules.{Verdict, sound, broken, firstBroken, given, refused, settle, ifSound}
-use Rattle.verdict.proofs.Laws.{equal-holds, equal-breaks, then-sound, then-broken, settle-given, settle-refused}
+use Rattle.verdict.proofs.Laws.{then-sound, then-broken, settle-given, settle-refused}
 use Rattle.wire.specs.Wire.{splice}
 use Rattle.crc32.specs.Crc.{crc32}
 use Rattle.rows.specs.Rows.{stride, tableBytes}
@@ -67,16 +67,12 @@ module _ (log rows frame : List ℕ) where
   unfolding hostOpenOf hostOpenRows hostOpenFrame
   settled v r e a = rw (e, a) (refl, refl, refl)
 
-  pub open-uneven : (r : Answer) → (length rows % stride ≡ 0 → ⊥) → r ≡ answered (refused 6 (length rows)) → Opens r rows frame
-  unfolding hostOpenRules
-  open-uneven r h a = settled (broken 6 (length rows)) r (equal-breaks _ _ _ _ _ h) a
-
-  module _ (r : Answer) (even : length rows % stride ≡ 0) where
+  module _ (r : Answer) where
     pub open-short : length frame < 40 → r ≡ answered (settle (lacking (callRules log (length rows)) 40) (frameOf log .blocks)) → Opens r rows frame
     unfolding hostOpenRules
     open-short h a =
         let v = lacking (callRules log (length rows)) 40 in
-        let e = equal-holds _ _ _ _ _ even ∙ lacking-rules (callRules log (length rows)) 40 (length frame) h in
+        let e = lacking-rules (callRules log (length rows)) 40 (length frame) h in
         let t = settled v r e a in
         let c = callRules log (length rows) in (
           t .0,
@@ -87,7 +83,7 @@ module _ (log rows frame : List ℕ) where
     module _ (h : 40 ≤ length frame) where
       rules : firstBroken (hostOpenRules log (length rows) (length frame)) ≡ firstBroken (callRules log (length rows))
       unfolding hostOpenRules
-      rules = equal-holds _ _ _ _ _ even ∙ roomy-rules (callRules log (length rows)) 40 (length frame) h
+      rules = roomy-rules (callRules log (length rows)) 40 (length frame) h
 
       pub open-refuses : (n p : ℕ) (after : List ℕ) → refused n p ≡ openOf log (length rows) → after ≡ openOut log rows
           → r ≡ answered (refused n p) → Opens r after frame

@@ -10,15 +10,14 @@ use Rattle.frame.specs.Frame.{frameOf}
 use Rattle.reader.specs.Open.{rowsIn, callRules}
 use Rattle.answer.specs.declared.Answer.{Answer}
 use Rattle.answer.specs.Answer.{answered}
-use Rattle.answer.specs.Rules.{wholeRows}
 
 -- "five u64: dictionary place, its stored size, index place, first time, last time"
 unfoldable pub frameBytes : Frame → List ℕ
 frameBytes r = le 8 (r .dictionary) ++ (le 8 (r .stored) ++ (le 8 (r .index) ++ (le 8 (r .first .0) ++ le 8 (r .last .0))))
 
--- then open's own, with 12 for the rows, and last 12 for the frame
+-- open's own, with 12 for the rows, and last 12 for the frame
 unfoldable pub hostOpenRules : (log : List ℕ) (rows frame : ℕ) → List Rule
-hostOpenRules log rows frame = wholeRows rows ∷ (callRules log rows ++ (atLeast 12 40 frame 40 ∷ []))
+hostOpenRules log rows frame = callRules log rows ++ (atLeast 12 40 frame 40 ∷ [])
 
 unfoldable pub hostOpenOf : (log : List ℕ) (rows frame : ℕ) → Answer
 hostOpenOf log rows frame = answered (settle (firstBroken (hostOpenRules log rows frame)) (frameOf log .blocks))

@@ -46,12 +46,8 @@ fn open_short(log: &[u8], rows: usize) -> Answer
 pub extern "C" fn hplog_open(log: &[u8], rows: &mut [u8], frame: &mut [u8]) -> Answer
     ensures { λ r. ⌜ (r ≡ hostOpenOf (now (log .entry)) (length (now (rows .entry))) (length (now (frame .entry)))) × (now (rows .exit) ≡ hostOpenRows (now (log .entry)) (now (rows .entry)) (length (now (frame .entry)))) × (now (frame .exit) ≡ hostOpenFrame (now (log .entry)) (length (now (rows .entry))) (now (frame .entry))) ⌝ }
 {
-    let n = rows.len();
-    if n % rows::STRIDE != 0 {
-        return answer::refuse(6, n as u64);
-    }
     if frame.len() < FRAME {
-        return open_short(log, n);
+        return open_short(log, rows.len());
     }
     let r = reader::open(log, rows);
     match r {

@@ -1,15 +1,15 @@
 -- The choice of blocks at the C edge. Assumes nothing.
 use mathlib.Core.List.{List, [], _∷_, _++_}
-use Prim.Native.Nat.{ℕ, _*_}
+use Prim.Native.Nat.{ℕ, _*_, _%_}
 use lib.ListN.{length}
-use Rattle.verdict.specs.Rules.{Rule, atLeast, atMost, ifSound, firstBroken, settle}
+use Rattle.verdict.specs.Rules.{Rule, equal, atLeast, atMost, ifSound, firstBroken, settle}
 use Rattle.wire.specs.Wire.{le, splice}
 use Rattle.parts.specs.declared.IndexRow.{IndexRow}
 use Rattle.parts.specs.declared.time.Epoch.{Epoch}
+use Rattle.rows.specs.Rows.{stride}
 use Rattle.query.specs.Query.{chosen, tableRows, rowRules}
 use Rattle.answer.specs.declared.Answer.{Answer}
 use Rattle.answer.specs.Answer.{answered}
-use Rattle.answer.specs.Rules.{wholeRows}
 
 abbrev pub epoch : ℕ → Epoch
 epoch t = record { 0 = t }
@@ -25,6 +25,10 @@ hostChosen rows t1 t2 = chosen (epoch t1) (epoch t2) 0 (hostRows rows)
 unfoldable pub numbersBytes : List ℕ → List ℕ
 numbersBytes [] = []
 numbersBytes (n ∷ ns) = le 4 n ++ numbersBytes ns
+
+-- all of the bytes are rows, so their length is a multiple of a row's: 6, place = that length
+abbrev pub wholeRows : ℕ → Rule
+wholeRows n = equal 6 n (n % stride) 0
 
 -- 13, then the length of the rows, their number, their order, and last 12 in bytes
 unfoldable pub hostQueryRules : (rows : List ℕ) (t1 t2 numbers : ℕ) → List Rule

@@ -1,11 +1,11 @@
 -- Laws of recovery at the C edge: what each part of the call decides, and what is handed back and written then. Assumes nothing.
 use mathlib.Core.Path.{_≡_, refl, sym, ap, _∙_}
 use mathlib.Core.List.{List, _++_}
-use Prim.Native.Nat.{ℕ, _*_, _%_, _≤_, _<_}
+use Prim.Native.Nat.{ℕ, _*_, _≤_, _<_}
 use native.Mathlib.Omega.{arith}
 use lib.ListN.{length}
 use Rattle.verdict.specs.Rules.{Verdict, sound, broken, firstBroken, given, refused, settle, ifSound}
-use Rattle.verdict.proofs.Laws.{equal-holds, equal-breaks, least-holds, least-breaks, first-none, then-sound, then-broken}
+use Rattle.verdict.proofs.Laws.{least-holds, least-breaks, first-none, then-sound, then-broken}
 use Rattle.wire.specs.Wire.{splice}
 use Rattle.rows.specs.Rows.{stride, tableBytes}
 use Rattle.rows.proofs.Rows.{length-table}
@@ -67,17 +67,13 @@ module _ (log rows report : List ℕ) where
   unfolding hostRecoverOf hostRecoverRows hostRecoverReport
   settled v r e a = rw (e, a) (refl, refl, refl)
 
-  pub recover-uneven : (r : Answer) → (length rows % stride ≡ 0 → ⊥) → r ≡ answered (refused 6 (length rows)) → Recovers r rows report
-  unfolding hostRecoverRules
-  recover-uneven r h a = settled (broken 6 (length rows)) r (equal-breaks _ _ _ _ _ h) a
-
-  module _ (r : Answer) (even : length rows % stride ≡ 0) where
+  module _ (r : Answer) where
     pub recover-short : length report < 32 → r ≡ answered (settle (lacking (callRules log (length rows)) 32) (length (reportOf log .rows)))
         → Recovers r rows report
     unfolding hostRecoverRules
     recover-short h a =
         let c = callRules log (length rows) in
-        let e = equal-holds _ _ _ _ _ even ∙ lacking-rules c 32 (length report) h in
+        let e = lacking-rules c 32 (length report) h in
         let t = settled (lacking c 32) r e a in (
           t .0,
           sym (lacking-never c 32 (splice rows 0 (tableBytes (reportOf log .rows))) rows) ∙ t .1,
@@ -87,7 +83,7 @@ module _ (log rows report : List ℕ) where
     module _ (h : 32 ≤ length report) where
       rules : firstBroken (hostRecoverRules log (length rows) (length report)) ≡ firstBroken (callRules log (length rows))
       unfolding hostRecoverRules
-      rules = equal-holds _ _ _ _ _ even ∙ roomy-rules (callRules log (length rows)) 32 (length report) h
+      rules = roomy-rules (callRules log (length rows)) 32 (length report) h
 
       pub recover-refuses : (n p : ℕ) (after : List ℕ) → refused n p ≡ counted (recoverOf log (length rows)) → after ≡ recoverOut log rows
           → r ≡ answered (refused n p) → Recovers r after report

@@ -9,7 +9,6 @@ use Rattle.rows.specs.Rows.{tableBytes}
 use Rattle.recovery.specs.Recovery.{reportOf, callRules}
 use Rattle.answer.specs.declared.Answer.{Answer}
 use Rattle.answer.specs.Answer.{answered}
-use Rattle.answer.specs.Rules.{wholeRows}
 
 -- "number and place that stopped it", 0 for a clean end
 abbrev pub stopNumber : Verdict → ℕ
@@ -29,9 +28,9 @@ flagOf false = 0
 unfoldable pub reportBytes : (end : ℕ) (stop : Verdict) (whole : Bool) → List ℕ
 reportBytes end stop whole = le 8 end ++ (le 8 (stopNumber stop) ++ (le 8 (stopPlace stop) ++ le 8 (flagOf whole)))
 
--- the length of the rows, recovery's own with 12 for the rows, and last 12 for the report
+-- recovery's own, with 12 for the rows, and last 12 for the report
 unfoldable pub hostRecoverRules : (log : List ℕ) (rows report : ℕ) → List Rule
-hostRecoverRules log rows report = wholeRows rows ∷ (callRules log rows ++ (atLeast 12 32 report 32 ∷ []))
+hostRecoverRules log rows report = callRules log rows ++ (atLeast 12 32 report 32 ∷ [])
 
 unfoldable pub hostRecoverOf : (log : List ℕ) (rows report : ℕ) → Answer
 hostRecoverOf log rows report = answered (settle (firstBroken (hostRecoverRules log rows report)) (length (reportOf log .rows)))

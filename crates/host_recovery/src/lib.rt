@@ -74,12 +74,8 @@ fn recover_short(log: &[u8], rows: usize) -> Answer
 pub extern "C" fn hplog_recover(log: &[u8], rows: &mut [u8], report: &mut [u8]) -> Answer
     ensures { λ r. ⌜ (r ≡ hostRecoverOf (now (log .entry)) (length (now (rows .entry))) (length (now (report .entry)))) × (now (rows .exit) ≡ hostRecoverRows (now (log .entry)) (now (rows .entry)) (length (now (report .entry)))) × (now (report .exit) ≡ hostRecoverReport (now (log .entry)) (length (now (rows .entry))) (now (report .entry))) ⌝ }
 {
-    let n = rows.len();
-    if n % rows::STRIDE != 0 {
-        return answer::refuse(6, n as u64);
-    }
     if report.len() < REPORT {
-        return recover_short(log, n);
+        return recover_short(log, rows.len());
     }
     let r = recovery::recover(log, rows);
     match r {

@@ -1,6 +1,6 @@
 //! Open, query, recover and repair.
 
-use crate::check::{awkward, awkward_rows, filled, Check};
+use crate::check::{awkward, filled, Check};
 use crate::edge;
 use hplog_tests::make;
 use hplog_tests::random::Random;
@@ -54,7 +54,7 @@ fn unclosed(random: &mut Random, mut log: Vec<u8>) -> Vec<u8> {
 pub fn open(check: &mut Check, random: &mut Random) {
     each_log(random, |random, log| {
         let need = reference::opened(log).map_or(28 * random.below(3), |(rows, _)| ROW * rows.len());
-        let mut outputs = [awkward_rows(random, need), awkward(random, 40)].map(|length| filled(random, length));
+        let mut outputs = [awkward(random, need), awkward(random, 40)].map(|length| filled(random, length));
         check.call(
             "open",
             [log],
@@ -68,7 +68,7 @@ pub fn open(check: &mut Check, random: &mut Random) {
 pub fn recover(check: &mut Check, random: &mut Random) {
     each_log(random, |random, log| {
         let found = if log.len() >= 64 { reference::scan(log, dictionary_offset(log)).rows.len() } else { random.below(3) };
-        let mut outputs = [awkward_rows(random, ROW * found), awkward(random, 32)].map(|length| filled(random, length));
+        let mut outputs = [awkward(random, ROW * found), awkward(random, 32)].map(|length| filled(random, length));
         check.call(
             "recover",
             [log],

@@ -1,5 +1,5 @@
 -- `host::hplog_open` meets its contract. Assumes nothing.
-use Rattle.host.proofs.Opens.{open-uneven, open-short, open-refuses, open-gives}
+use Rattle.host.proofs.Opens.{open-short, open-refuses, open-gives}
 use borrow.Author.Needs.{needs}
 use Rattle.host.proofs.hplog_open.Statement.{statement}
 use Rattle.host.proofs.hplog_open.Tie as tie
@@ -8,38 +8,29 @@ returns : tie.Need-returns
 returns c =
     let t = c .before in
     let a = t .before .before .before .before .args in
-    open-uneven (a .log .now) (a .rows .now) (a .frame .now) _ (t .if1 .taken) (c .refuse .ensures)
+    open-short (a .log .now) (a .rows .now) (a .frame .now) _ (t .if1 .taken) (c .open-short .ensures)
 
 returns-2 : tie.Need-returns-2
 returns-2 c =
-    let t = c .before in
-    let e = t .before in
-    let a = e .before .before .before .before .args in
-    open-short (a .log .now) (a .rows .now) (a .frame .now) _ (e .if1 .left) (t .if2 .taken) (c .open-short .ensures)
-
-returns-3 : tie.Need-returns-3
-returns-3 c =
     let k = c .before .before in
     let o = k .before .before .before .before in
     let t = o .before .before in
-    let e = t .before in
-    let a = e .before .before .before .before .args in
-    open-refuses (a .log .now) (a .rows .now) (a .frame .now) _ (e .if1 .left) (t .if2 .left) _ _ _
+    let a = t .before .before .before .before .args in
+    open-refuses (a .log .now) (a .rows .now) (a .frame .now) _ (t .if1 .left) _ _ _
     (rw (k .r .given .1) at (o .open .ensures .0)) (o .open .ensures .1) (c .refused .ensures)
 
-returns-4 : tie.Need-returns-4
-returns-4 c =
+returns-3 : tie.Need-returns-3
+returns-3 c =
     let p = c .before .before .before in
     let k = p .before .before .before in
     let o = k .before .before .before .before in
     let t = o .before .before in
-    let e = t .before in
-    let a = e .before .before .before .before .args in
-    open-gives (a .log .now) (a .rows .now) (a .frame .now) _ (e .if1 .left) (t .if2 .left) _ _ _
+    let a = t .before .before .before .before .args in
+    open-gives (a .log .now) (a .rows .now) (a .frame .now) _ (t .if1 .left) _ _ _
     (rw (k .r2 .given .1) at (o .open .ensures .0)) (o .open .ensures .1) (c .accepted .ensures) (p .put-frame .ensures)
 
 pub hplog-open-spec : {M : Type 1} → statement M
 hplog-open-spec =
     tie.close
-    (tie.spec (λ c κs. search needs) returns (λ c κs. search needs) returns-2 (λ c κs. search needs) (λ c. search needs) (λ c κs. search needs)
-    (λ c. search needs) (λ c κs. search needs) (λ c κs. search needs) (λ c. search needs) returns-3 (λ c. search needs) (λ c. search needs) returns-4)
+    (tie.spec (λ c κs. search needs) returns (λ c κs. search needs) (λ c. search needs) (λ c κs. search needs)
+    (λ c. search needs) (λ c κs. search needs) (λ c κs. search needs) (λ c. search needs) returns-2 (λ c. search needs) (λ c. search needs) returns-3)
