@@ -4,6 +4,7 @@ use mathlib.Core.Bool.{true, false, not}
 use mathlib.Core.List.{List, [], _∷_, _++_, append-assoc, append-nil}
 use Prim.Native.Nat.{ℕ, zero, suc, _+_, _-_, _≤_, _<_}
 use native.Mathlib.Nat.{add-zero}
+use native.Mathlib.Numerals.{add-one}
 use native.Mathlib.Omega.{arith}
 use native.Mathlib.Decide.{decLt}
 use lib.ListN.{length, getD, drop, length-append, length-drop, List·getD-append}
@@ -170,6 +171,10 @@ module _ (s t : List ℕ) (ns : List (List ℕ)) (right : Right ns) (here : drop
     place-after : placeOf s (suc i) ≡ placeOf s i + 4 + length (getD ns i [])
     unfolding placeOf
     place-after = next-here s (getD ns i []) (Behind i) i (placeOf s i) h f g
+
+    -- up to its last byte
+    pub within-there : placeOf s (i + 1) ≤ length s
+    within-there = rw add-one (omega (arith, place-after, length-here s (getD ns i []) (Behind i) i (placeOf s i) h f g))
 
   new-there : (i : ℕ) → i < length ns → held s i (nameOf s i) ≡ false
   new-there i l = held-not s (nameOf s i) i (λ j k e. right .new i l j k (sym (name-there j (omega arith)) ∙ e ∙ name-there i l))

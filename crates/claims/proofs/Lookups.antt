@@ -34,7 +34,7 @@ module _ (s : List ℕ) (n : ℕ) (e : dictionaryOf s ≡ given n) where
   found-own i l (numbered j) q =
       let r = found-name n s 0 (nameOf s i) j q in
       ap numbered (number-one j i (omega (arith, r .1)) l (r .0))
-  found-own i l missing q = absurd (missing-name n s 0 (nameOf s i) q i (omega arith) (omega arith) refl)
+  found-own i l missing q = absurd (missing-name n s 0 (nameOf s i) q i (omega arith) (omega arith) (accepted s n e .name i l .within) refl)
 
   found-none : (x : List ℕ) → ((i : ℕ) → i < n → nameOf s i ≡ x → ⊥) → (f : Found) → seekFrom n s 0 x ≡ f → f ≡ missing
   found-none x d (numbered j) q = let r = found-name n s 0 x j q in absurd (d j (omega (arith, r .1)) (r .0))

@@ -17,8 +17,9 @@ use Rattle.wire.proofs.Lists.{drop-take}
 use Rattle.wire.proofs.Compares.{same-refl, same-equal}
 use Rattle.utf8.specs.Utf8.{utf8Of}
 use Rattle.packing.specs.Table.{recordsIn, fieldsOf}
-use Rattle.names.specs.Dictionary.{nameOf, dictionaryRules, dictionaryOf}
-use Rattle.lookup.specs.Lookup.{Found, numbered, missing, seekFrom}
+use Rattle.names.specs.Dictionary.{placeOf, nameOf, dictionaryRules, dictionaryOf}
+use Rattle.lookup.specs.Lookup.{Found, numbered, missing, isName, seekFrom}
+use Rattle.lookup.proofs.Laws.{whole-name, name-same}
 use Rattle.writer.specs.declared.state.Turn.{Turn}
 use Rattle.writer.specs.declared.state.Turn.the-variants as turn
 use Rattle.writer.specs.declared.state.Writer.{Writer}
@@ -37,7 +38,7 @@ use Rattle.writer_blocks.proofs.Blocks.{block-bounded}
 use Rattle.claims.specs.Calls.{Call, begin, name, entry, block, close, ifGiven, verdictFor, next, last}
 use Rattle.claims.specs.Calls.{Writing, newWriting, dictionaryAfter, after, behind, Agrees, Fair}
 use Rattle.claims.specs.Built.{among, heldAfter, heldBehind, namesHeld, namesBytes, plainNames, builtNames, Closable, HoldsNames, NamesBuilt}
-use Rattle.claims.proofs.Listed.{Right, right-none, right-more, length-name, names-more, name-there, number-one, plain-count, plain-sound}
+use Rattle.claims.proofs.Listed.{Right, right-none, right-more, length-name, names-more, name-there, within-there, number-one, plain-count, plain-sound}
 use Rattle.claims.proofs.Listed.{plain-accepted}
 
 -- ---- a search among the names
@@ -45,25 +46,28 @@ use Rattle.claims.proofs.Listed.{plain-accepted}
 pub found-name : (left : ℕ) (s : List ℕ) (i : ℕ) (n : List ℕ) (j : ℕ) → seekFrom left s i n ≡ numbered j → (nameOf s j ≡ n) × (j < i + left)
 unfolding seekFrom
 found-name zero s i n j e = let z : _≡_ {A = ℕ} 0 1 = cc in absurd (omega arith)
-found-name (suc left) s i n j e = go (same (nameOf s i) n) refl (found-name left s (suc i) n j) e
+found-name (suc left) s i n j e = go (isName s i n) refl (found-name left s (suc i) n j) e
   where
-    go : (b : Bool) → same (nameOf s i) n ≡ b → (seekFrom left s (suc i) n ≡ numbered j → (nameOf s j ≡ n) × (j < suc i + left))
+    go : (b : Bool) → isName s i n ≡ b → (seekFrom left s (suc i) n ≡ numbered j → (nameOf s j ≡ n) × (j < suc i + left))
         → cond b (numbered i) (seekFrom left s (suc i) n) ≡ numbered j → (nameOf s j ≡ n) × (j < i + suc left)
-    go true q ih e = let k : i ≡ j = cc in (rw (← k) (same-equal (nameOf s i) n q), omega arith)
+    go true q ih e = let k : i ≡ j = cc in (rw (← k) (name-same s i n q), omega arith)
     go false q ih e = let r = ih e in (r .0, omega (arith, r .1))
 
-pub missing-name : (left : ℕ) (s : List ℕ) (i : ℕ) (n : List ℕ) → seekFrom left s i n ≡ missing → (k : ℕ) → i ≤ k → k < i + left → nameOf s k ≡ n → ⊥
+-- of names that lie within the dictionary none is the one that isn't found
+pub missing-name : (left : ℕ) (s : List ℕ) (i : ℕ) (n : List ℕ) → seekFrom left s i n ≡ missing
+    → (k : ℕ) → i ≤ k → k < i + left → placeOf s (k + 1) ≤ length s → nameOf s k ≡ n → ⊥
 unfolding seekFrom
-missing-name zero s i n e k a b q = absurd (omega arith)
-missing-name (suc left) s i n e k a b q = go (same (nameOf s i) n) refl (λ e a b. missing-name left s (suc i) n e k a b q) e (decLt i k)
+missing-name zero s i n e k a b h q = absurd (omega arith)
+missing-name (suc left) s i n e k a b h q = go (isName s i n) refl (λ e a b. missing-name left s (suc i) n e k a b h q) e (decLt i k)
   where
-    go : (t : Bool) → same (nameOf s i) n ≡ t → (seekFrom left s (suc i) n ≡ missing → suc i ≤ k → k < suc i + left → ⊥)
+    go : (t : Bool) → isName s i n ≡ t → (seekFrom left s (suc i) n ≡ missing → suc i ≤ k → k < suc i + left → ⊥)
         → cond t (numbered i) (seekFrom left s (suc i) n) ≡ missing → Dec (i < k) → ⊥
     go true p ih e d = let z : _≡_ {A = ℕ} 0 1 = cc in omega arith
     go false p ih e (yes d) = ih e d (omega arith)
     go false p ih e (no d) =
         let m : k ≡ i = omega arith in
-        let r : same (nameOf s i) n ≡ true = ap (λ (l : List ℕ). same l n) (sym (ap (nameOf s) m) ∙ q) ∙ same-refl n in
+        let r : isName s k n ≡ true = whole-name s k n h ∙ ap (λ (l : List ℕ). same l n) q ∙ same-refl n in
+        let f : isName s k n ≡ false = ap (λ (x : ℕ). isName s x n) m ∙ p in
         let z : _≡_ {A = ℕ} 0 1 = cc in omega arith
 
 pub among-there : (ns : List (List ℕ)) (n : List ℕ) (i : ℕ) → i < length ns → getD ns i [] ≡ n → among ns n ≡ true
@@ -200,6 +204,9 @@ module _ (w : Writer) (d : List ℕ) (ns : List (List ℕ)) (g : Holding w d ns)
   pub each-held : (i : ℕ) → i < length ns → nameOf d i ≡ getD ns i []
   each-held i l = name-there d (drop (w .dictionary) d) ns (g .right) here i l
 
+  whole-held : (i : ℕ) → i < length ns → placeOf d (i + 1) ≤ length d
+  whole-held i l = within-there d (drop (w .dictionary) d) ns (g .right) here i l
+
   module _ (n : List ℕ) where
     held-number : (i : ℕ) → heldAs w d n ≡ numbered i → (nameOf d i ≡ n) × (i < length ns)
     unfolding heldAs
@@ -207,7 +214,7 @@ module _ (w : Writer) (d : List ℕ) (ns : List (List ℕ)) (g : Holding w d ns)
 
     not-held : heldAs w d n ≡ missing → (i : ℕ) → i < length ns → getD ns i [] ≡ n → ⊥
     unfolding heldAs
-    not-held e i l q = missing-name (w .names) d 0 n e i (omega arith) (omega (arith, g .count)) (each-held i l ∙ q)
+    not-held e i l q = missing-name (w .names) d 0 n e i (omega arith) (omega (arith, g .count)) (whole-held i l) (each-held i l ∙ q)
 
     -- a name that isn't held comes behind those held
     module _ (miss : heldAs w d n ≡ missing) (new : New w n d) where

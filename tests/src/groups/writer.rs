@@ -72,8 +72,11 @@ impl Calls {
     pub fn add_name(&mut self, check: &mut Check, random: &mut Random, room: Room, name: &[u8]) -> Answer {
         let state = self.state;
         let need = state.dictionary as usize + 4 + name.len().min(70_000);
-        // What is held is always lent whole.
-        let length = room.length(random, need).max(self.dictionary.len());
+        let length = match room {
+            // Cut within what is held.
+            Room::Awkward if random.once_in(2) => random.below(self.dictionary.len() + 1),
+            _ => room.length(random, need),
+        };
         let mut outputs = [held_in(random, &self.dictionary, length)];
         let written = check.call(
             &format!("add_name from {state:?}"),
@@ -83,9 +86,9 @@ impl Calls {
             |[name], [dictionary]| edge::add_name(state, dictionary, name),
         );
         let [dictionary] = outputs;
-        // With no name at all nothing is built.
-        let built = if written.next.names == 0 { 0 } else { written.next.dictionary as usize };
-        self.dictionary = dictionary[..built].to_vec();
+        if written.next.names > state.names {
+            self.dictionary = dictionary[..written.next.dictionary as usize].to_vec();
+        }
         self.state = written.next;
         written.answer
     }
@@ -294,11 +297,23 @@ fn random_block(check: &mut Check, random: &mut Random, calls: &mut Calls) {
     calls.add_block(check, random, room, start, &plain, &stored, names);
 }
 
+/// A name that is held, or the beginning of one; an empty one where none is.
+fn known_name(random: &mut Random, dictionary: &[u8]) -> Vec<u8> {
+    let places = reference::name_places(dictionary).unwrap_or_default();
+    if places.is_empty() {
+        return Vec::new();
+    }
+    let (from, length) = random.pick(&places);
+    let kept = if random.once_in(2) { length } else { random.below(length + 1) };
+    dictionary[from..from + kept].to_vec()
+}
+
 fn random_name(check: &mut Check, random: &mut Random, calls: &mut Calls) {
     let name = match random.below(40) {
         0 => vec![b'n'; 65_534 + random.below(4)],
         1..=8 => make::doubtful_text(random),
-        9..=20 => make::names(random, 1).remove(0),
+        9..=16 => make::names(random, 1).remove(0),
+        17..=24 => known_name(random, &calls.dictionary),
         _ => vec![b'a' + random.below(8) as u8; random.below(4)],
     };
     let room = random.pick(&[Room::Enough, Room::Enough, Room::Awkward]);
