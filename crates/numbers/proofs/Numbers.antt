@@ -211,7 +211,7 @@ parts-numbered zero s at = refl
 parts-numbered (suc n) s at = parts-numbered n s _
 
 book-numbered : (n : ℕ) (s : List ℕ) → allListed (book.bookRules n s) ≡ true
-unfolding book.bookRules allListed numberOf
+unfolding book.bookRules book.frontRules allListed numberOf
 book-numbered n s = parts-numbered (suc n) s _
 
 entries-numbered : (n : ℕ) (f s : List ℕ) (at plain k : ℕ) → allListed (contents.entriesRules n f s at plain k) ≡ true
