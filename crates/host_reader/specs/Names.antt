@@ -4,7 +4,7 @@ use Prim.Native.Nat.{ℕ}
 use Rattle.verdict.specs.Rules.{Outcome, given, refused}
 use Rattle.names.specs.Dictionary.{dictionaryOf}
 use Rattle.lookup.specs.declared.Span.{Span}
-use Rattle.lookup.specs.Lookup.{lookupOf}
+use Rattle.lookup.specs.Lookup.{Found, numbered, missing, lookupOf, seekOf}
 use Rattle.answer.specs.declared.Answer.{Answer}
 use Rattle.answer.specs.Answer.{answered}
 
@@ -19,3 +19,12 @@ spanAnswer (refused n p) = record { number = n; place = p; count = 0 }
 
 unfoldable pub hostNameOf : List ℕ → (i : ℕ) → Answer
 hostNameOf s i = spanAnswer (lookupOf s i)
+
+-- a name's number: "place = 1 and count = the number", both 0 where no name is the one given
+abbrev pub numberAnswer : Outcome Found → Answer
+numberAnswer (given (numbered i)) = record { number = 0; place = 1; count = i }
+numberAnswer (given missing) = answered (given 0)
+numberAnswer (refused n p) = answered (refused n p)
+
+unfoldable pub hostNumberOf : (dictionary name : List ℕ) → Answer
+hostNumberOf dictionary name = numberAnswer (seekOf dictionary name)

@@ -2,7 +2,7 @@
 ghost use mathlib.Core.Path.{_≡_};
 ghost use Rattle.cursor.specs.Answers.{deltaAt, countAt, fieldAt};
 ghost use Rattle.cursor.specs.declared.FieldStep.the-variants as field;
-ghost use Rattle.host_reader.specs.Names.{hostNamesOf, hostNameOf};
+ghost use Rattle.host_reader.specs.Names.{hostNamesOf, hostNameOf, hostNumberOf};
 ghost use Rattle.host_reader.specs.Steps.{stepped, stopped, deltaAnswer, countAnswer, readField, fieldAnswer};
 use answer::Answer;
 use cursor::CountStep;
@@ -12,6 +12,7 @@ use cursor::Field;
 use cursor::FieldStep;
 use cursor::Value;
 use lookup::Located;
+use lookup::Sought;
 use names::Counted;
 use verdict::Refusal;
 
@@ -60,6 +61,22 @@ pub extern "C" fn hplog_name(dictionary: &[u8], i: u64) -> Answer
             count: p.length as u64,
         },
         Located::Refused(w) => answer::refused(w),
+    }
+}
+
+#[no_mangle]
+pub extern "C" fn hplog_number(dictionary: &[u8], name: &[u8]) -> Answer
+    ensures { λ r. ⌜ r ≡ hostNumberOf (now (dictionary .entry)) (now (name .entry)) ⌝ }
+{
+    let f = lookup::number_of(dictionary, name);
+    match f {
+        Sought::Number(i) => Answer {
+            number: 0,
+            place: 1,
+            count: i as u64,
+        },
+        Sought::Missing => answer::accepted(0),
+        Sought::Refused(w) => answer::refused(w),
     }
 }
 

@@ -25,7 +25,7 @@ use Rattle.entries.specs.Block.{blockVerdict}
 use Rattle.packing.specs.Rules as packing
 use Rattle.names.specs.Dictionary as names
 use Rattle.lookup.specs.declared.Span.{Span}
-use Rattle.lookup.specs.Lookup.{Found, numbered, missing, lookupOf}
+use Rattle.lookup.specs.Lookup.{Found, numbered, missing, lookupOf, seekOf}
 use Rattle.label.specs.Label.{labelOf}
 use Rattle.frame.specs.Frame as frame
 use Rattle.reader.specs.Open as reader
@@ -51,13 +51,19 @@ use Rattle.host_recovery.specs.Recover.{stopNumber, hostRecoverRules, hostRecov
 use Rattle.host_recovery.specs.Repair.{hostRepairOf}
 use Rattle.host_query.specs.Query.{hostRows, hostQueryRules, hostQueryOf}
 use Rattle.host_query.specs.Label.{hostLabelOf}
+use Rattle.access.specs.declared.Span as access-span
+use Rattle.host_access.specs.Stored as stored
+use Rattle.host_access.specs.Block.{hostBlockRules, hostBlockOf}
+use Rattle.book.specs.declared.Span as book-span
+use Rattle.book.specs.declared.Tally.{Tally}
+use Rattle.host_book.specs.Books as books
 use Rattle.host_lister.specs.declared.Listing.{Listing}
 use Rattle.host_lister.specs.declared.Listed as lister
 use Rattle.host_lister.specs.Answers.{hostListOf, Went}
 use Rattle.host_writer.specs.declared.State.{State}
 use Rattle.host_writer.specs.State.{writerIn}
 use Rattle.host_writer.specs.Answers as edge
-use Rattle.host_reader.specs.Names.{spanAnswer, hostNamesOf, hostNameOf}
+use Rattle.host_reader.specs.Names.{spanAnswer, numberAnswer, hostNamesOf, hostNameOf, hostNumberOf}
 use Rattle.host_reader.specs.Steps.{deltaAnswer, countAnswer, fieldAnswer}
 use Rattle.numbers.specs.Numbers.{Listed, Returns, deltaVerdict, countVerdict, fieldVerdict, TableNumbers}
 use Rattle.numbers.proofs.Payloads.{allListed, cond-listed, first-listed, both, ruled-numbered, settled}
@@ -214,6 +220,10 @@ book-numbered : (n : ℕ) (s : List ℕ) → allListed (book.bookRules n s) ≡ 
 unfolding book.bookRules book.frontRules allListed numberOf
 book-numbered n s = parts-numbered (suc n) s _
 
+parts-listed : (s : List ℕ) → Listed (verdictIn (book.partsOf s))
+unfolding book.partsOf
+parts-listed s = settled (book.bookRules (book.tallyIn s .blocks) s) _ (book-numbered (book.tallyIn s .blocks) s)
+
 entries-numbered : (n : ℕ) (f s : List ℕ) (at plain k : ℕ) → allListed (contents.entriesRules n f s at plain k) ≡ true
 unfolding contents.entriesRules allListed
 entries-numbered zero f s at plain k = refl
@@ -257,6 +267,24 @@ span-returns : (o : Outcome Span) → Listed (verdictIn o) → Returns (verdictI
 span-returns (given a) h = refl
 span-returns (refused n p) h = (refl, h)
 
+stored-returns : (o : Outcome IndexRow) (f : IndexRow → access-span.Span) → Listed (verdictIn o)
+    → Returns (verdictIn o) (stored.spanAnswer (onGiven o (λ row. given (f row))) .number)
+stored-returns (given a) f h = refl
+stored-returns (refused n p) f h = (refl, h)
+
+book-returns : (v : Verdict) (p : book-span.Span) → Listed v → Returns v (books.spanAnswer (settle v p) .number)
+book-returns sound p h = refl
+book-returns (broken m q) p h = (refl, h)
+
+parts-returns : (o : Outcome Tally) → Listed (verdictIn o) → Returns (verdictIn o) (books.partsAnswer o .number)
+parts-returns (given t) h = refl
+parts-returns (refused n p) h = (refl, h)
+
+number-returns : (o : Outcome Found) → Listed (verdictIn o) → Returns (verdictIn o) (numberAnswer o .number)
+number-returns (given (numbered i)) h = refl
+number-returns (given missing) h = refl
+number-returns (refused n p) h = (refl, h)
+
 stop-returns : (v : Verdict) → Listed v → Returns v (stopNumber v)
 stop-returns sound h = refl
 stop-returns (broken n p) h = (refl, h)
@@ -292,6 +320,12 @@ host-open-numbered log rows room = both (reader.callRules log rows) _ (open-call
 host-recover-numbered : (log : List ℕ) (rows report : ℕ) → allListed (hostRecoverRules log rows report) ≡ true
 unfolding hostRecoverRules allListed numberOf
 host-recover-numbered log rows report = both (recovery.callRules log rows) _ (recover-call-numbered log rows) refl
+
+host-block-numbered : (log : List ℕ) (at : ℕ) (plain : List ℕ) (k : ℕ) → allListed (hostBlockRules log at plain k) ≡ true
+unfolding hostBlockRules allListed numberOf
+host-block-numbered log at plain k =
+    let v = blockVerdict plain (blocks.headAt log at) k in
+    ruled-numbered v (block-listed plain (blocks.headAt log at) k)
 
 host-query-numbered : (rows : List ℕ) (t1 t2 numbers : ℕ) → allListed (hostQueryRules rows t1 t2 numbers) ≡ true
 unfolding hostQueryRules allListed numberOf
@@ -349,7 +383,8 @@ next-accepted : (log book : List ℕ) (from : Listing) (out : List ℕ) (r : lis
 next-accepted log book from out r exit h = let q = h .says in cc
 
 pub table-numbers : TableNumbers
-unfolding hostOpenOf hostRecoverOf hostRepairOf hostQueryOf hostLabelOf hostNamesOf hostNameOf hostListOf
+unfolding hostOpenOf hostRecoverOf hostRepairOf hostQueryOf hostLabelOf hostNamesOf hostNameOf hostNumberOf hostListOf
+    stored.hostStoredOf stored.hostDictionaryOf hostBlockOf books.hostBookOf books.hostPartsOf books.hostPartOf
 table-numbers =
     record {
       header = λ f. first-listed (headerRules f) (header-numbered f);
@@ -386,6 +421,7 @@ table-numbers =
       block = adding-listed;
       close = close-listed;
       book = λ n s. first-listed (book.bookRules n s) (book-numbered n s);
+      book-parts = parts-listed;
       contents = contents-listed;
       input = input-listed;
       hplog-open = λ log rows room. rules-return (hostOpenRules log rows room) _ (host-open-numbered log rows room);
@@ -393,12 +429,19 @@ table-numbers =
       hplog-stop = λ log. stop-returns (recovery.reportOf log .stop) (stop-listed log);
       hplog-repair = λ log d room. given-returns (repair.repairOf log d room) _ (repair-listed log d room);
       hplog-query = λ rows t1 t2 room. rules-return (hostQueryRules rows t1 t2 room) _ (host-query-numbered rows t1 t2 room);
+      hplog-stored = λ log rows i. stored-returns (access.rowIn rows (length rows / stride) i) _ (row-listed rows (length rows / stride) i);
+      hplog-dictionary = λ log frame. refl;
       hplog-label = λ n room. settled-returns (labelOf n room) 0 (label-listed n room);
       hplog-names = λ s. answered-returns (names.dictionaryOf s) (dictionary-listed s);
       hplog-name = λ s i. span-returns (lookupOf s i) (lookup-listed s i);
+      hplog-number = λ s n. number-returns (seekOf s n) (seek-listed s n);
       hplog-delta = λ s at. delta-returns (deltaAt s at) (delta-at s at);
       hplog-count = λ s at. count-returns (countAt s at) (count-at s at);
       hplog-field = λ s n at. field-returns (fieldAt s n at) (field-at s n at);
+      hplog-check-block = λ log at plain k. rules-return (hostBlockRules log at plain k) _ (host-block-numbered log at plain k);
+      hplog-book = λ s n. book-returns (firstBroken (book.bookRules n s)) _ (first-listed (book.bookRules n s) (book-numbered n s));
+      hplog-book-parts = λ s. parts-returns (book.partsOf s) (parts-listed s);
+      hplog-book-part = λ s at. refl;
       hplog-list = λ log s. given-returns (contents.contentsOf log s) _ (contents-listed log s);
       hplog-list-next = next-accepted;
       hplog-begin = λ s room. storing-returns s (beginOf (writerIn s) room) (begin-listed (writerIn s) room);

@@ -5,8 +5,9 @@
 use mathlib.Core.Path.{_≡_}
 use mathlib.Core.Bool.{Bool, true, _&&_}
 use mathlib.Core.List.{List}
-use Prim.Native.Nat.{ℕ}
+use Prim.Native.Nat.{ℕ, _/_}
 use lib.Dec.{leb}
+use lib.ListN.{length}
 use Rattle.verdict.specs.Rules.{Verdict, sound, broken, firstBroken, verdictIn}
 use Rattle.crc32.specs.Crc.{crc32}
 use Rattle.parts.specs.declared.BlockHeader.{BlockHeader}
@@ -30,6 +31,7 @@ use Rattle.lookup.specs.Lookup.{lookupOf, seekOf}
 use Rattle.label.specs.Label.{labelOf}
 use Rattle.frame.specs.Frame.{dictionaryRules, checkedOf}
 use Rattle.reader.specs.Open.{openRules, openOf}
+use Rattle.rows.specs.Rows.{stride}
 use Rattle.access.specs.Access as access
 use Rattle.query.specs.Query.{countOf, queryOf}
 use Rattle.slices.specs.Slices as slices
@@ -42,7 +44,7 @@ use Rattle.writer.specs.Close.{closeOf}
 use Rattle.writer_names.specs.Name.{nameOf}
 use Rattle.writer_entries.specs.Entry.{entryOf}
 use Rattle.writer_blocks.specs.Block.{Adding, blockOf}
-use Rattle.book.specs.Book.{bookRules}
+use Rattle.book.specs.Book.{bookRules, partsOf}
 use Rattle.contents.specs.Contents.{contentsOf}
 use Rattle.input.specs.Input.{inputOf}
 use Rattle.host.specs.Open.{hostOpenRules, hostOpenOf}
@@ -50,13 +52,16 @@ use Rattle.host_recovery.specs.Recover.{stopNumber, hostRecoverRules, hostRecov
 use Rattle.host_recovery.specs.Repair.{hostRepairOf}
 use Rattle.host_query.specs.Query.{hostQueryRules, hostQueryOf}
 use Rattle.host_query.specs.Label.{hostLabelOf}
+use Rattle.host_access.specs.Stored.{hostStoredOf, hostDictionaryOf}
+use Rattle.host_access.specs.Block.{hostBlockRules, hostBlockOf}
+use Rattle.host_book.specs.Books.{hostBookOf, hostPartsOf, hostPartOf}
 use Rattle.host_lister.specs.declared.Listing.{Listing}
 use Rattle.host_lister.specs.declared.Listed as lister
 use Rattle.host_lister.specs.Answers.{hostListOf, Went}
 use Rattle.host_writer.specs.declared.State.{State}
 use Rattle.host_writer.specs.State.{writerIn}
 use Rattle.host_writer.specs.Answers.{storing, naming, entering}
-use Rattle.host_reader.specs.Names.{hostNamesOf, hostNameOf}
+use Rattle.host_reader.specs.Names.{hostNamesOf, hostNameOf, hostNumberOf}
 use Rattle.host_reader.specs.Steps.{deltaAnswer, countAnswer, fieldAnswer}
 
 -- the numbers of the table: from 1, "file below 64 bytes", to 17, "writer call out of turn"
@@ -131,8 +136,9 @@ pub record TableNumbers : Type 0 where
   pub block : (w : Writer) (a : Adding) (table room : ℕ) → Listed (verdictIn (blockOf w a table room))
   pub close : (w : Writer) (table plain stored : List ℕ) (room : ℕ)
       → Listed (verdictIn (closeOf w table plain stored room))
-  -- the listing: a plain book, a log with its book, the program's input
+  -- the listing: a plain book, with its log's number of blocks and without, a log with its book, the program's input
   pub book : (blocks : ℕ) (s : List ℕ) → Listed (firstBroken (bookRules blocks s))
+  pub book-parts : (s : List ℕ) → Listed (verdictIn (partsOf s))
   pub contents : (f s : List ℕ) → Listed (verdictIn (contentsOf f s))
   pub input : (x : List ℕ) → Listed (verdictIn (inputOf x))
   -- the C edge, files and rows: opening, recovery and what its report says of the stop, repair, the choice of blocks
@@ -145,14 +151,25 @@ pub record TableNumbers : Type 0 where
       → Returns (verdictIn (repairOf log d room)) (hostRepairOf log d room .number)
   pub hplog-query : (rows : List ℕ) (t1 t2 numbers : ℕ)
       → Returns (firstBroken (hostQueryRules rows t1 t2 numbers)) (hostQueryOf rows t1 t2 numbers .number)
-  -- the C edge, plain bytes: the label, the dictionary and a name in it, the reading steps
+  -- the C edge, stored bytes, of which the dictionary's are never refused
+  pub hplog-stored : (log rows : List ℕ) (i : ℕ)
+      → Returns (verdictIn (access.rowIn rows (length rows / stride) i)) (hostStoredOf log rows i .number)
+  pub hplog-dictionary : (log frame : List ℕ) → hostDictionaryOf log frame .number ≡ 0
+  -- the C edge, plain bytes: the label, the dictionary, a name in it and a name's number, the reading steps, a block
   pub hplog-label : (name : List ℕ) (room : ℕ) → Returns (labelOf name room) (hostLabelOf name room .number)
   pub hplog-names : (s : List ℕ) → Returns (verdictIn (dictionaryOf s)) (hostNamesOf s .number)
   pub hplog-name : (s : List ℕ) (i : ℕ) → Returns (verdictIn (lookupOf s i)) (hostNameOf s i .number)
+  pub hplog-number : (s n : List ℕ) → Returns (verdictIn (seekOf s n)) (hostNumberOf s n .number)
   pub hplog-delta : (s : List ℕ) (at : ℕ) → Returns (deltaVerdict (deltaAt s at)) (deltaAnswer (deltaAt s at) .number)
   pub hplog-count : (s : List ℕ) (at : ℕ) → Returns (countVerdict (countAt s at)) (countAnswer (countAt s at) .number)
   pub hplog-field : (s : List ℕ) (names at : ℕ)
       → Returns (fieldVerdict (fieldAt s names at)) (fieldAnswer (fieldAt s names at) .number)
+  pub hplog-check-block : (log : List ℕ) (at : ℕ) (plain : List ℕ) (names : ℕ)
+      → Returns (firstBroken (hostBlockRules log at plain names)) (hostBlockOf log at plain names .number)
+  -- the C edge, plain books, of which a part is never refused
+  pub hplog-book : (s : List ℕ) (blocks : ℕ) → Returns (firstBroken (bookRules blocks s)) (hostBookOf s blocks .number)
+  pub hplog-book-parts : (s : List ℕ) → Returns (verdictIn (partsOf s)) (hostPartsOf s .number)
+  pub hplog-book-part : (s : List ℕ) (at : ℕ) → hostPartOf s at .number ≡ 0
   -- the C edge, the listing: its start, and its pieces, of which none is refused
   pub hplog-list : (log book : List ℕ) → Returns (verdictIn (contentsOf log book)) (hostListOf log book .number)
   pub hplog-list-next : (log book : List ℕ) (from : Listing) (out : List ℕ) (r : lister.Listed) (exit : List ℕ)

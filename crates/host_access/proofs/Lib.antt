@@ -1,0 +1,2 @@
+-- The laws of the calls on stored bytes and on one block at the C edge.
+pub mod Blocks
