@@ -1,2 +1,3 @@
 -- The laws of the calls on stored bytes and on one block at the C edge.
 pub mod Blocks
+pub mod Frames
