@@ -12,8 +12,10 @@ use recovery::Report;
 use varint::Decoded;
 use verdict::Checked;
 use verdict::Refusal;
+ghost use mathlib.Core.Path.{_≡_};
 ghost use Prim.Native.Nat.{_+_, _*_, _<_, _≤_};
 ghost use Rattle.io.specs.Counts.{Counts};
+ghost use Rattle.lookup.specs.Lookup.{lookupOf, nameIn};
 
 pub fn crc32(s: &[u8], out: &mut [u8]) -> usize
     ensures { λ r. ⌜ Counts r (now (out .exit)) ⌝ }
@@ -158,6 +160,14 @@ fn located(place: usize, name: &[u8], out: &mut [u8]) -> usize
     text::with_bytes(out, d, name)
 }
 
+// A name's bytes, as `lookup::name` hands them back.
+fn handed(dictionary: &[u8], id: u64) -> &[u8]
+    ensures { λ r. ⌜ now r ≡ nameIn (lookupOf (now (dictionary .entry)) id) (now (dictionary .entry)) ⌝ }
+{
+    let n = lookup::name(dictionary, id);
+    n.bytes
+}
+
 pub fn name(s: &[u8], out: &mut [u8]) -> usize
     ensures { λ r. ⌜ Counts r (now (out .exit)) ⌝ }
 {
@@ -165,7 +175,7 @@ pub fn name(s: &[u8], out: &mut [u8]) -> usize
     let dictionary = wire::part_at(s, 8, s.len());
     let l = lookup::locate(dictionary, id);
     match l {
-        Located::At(p) => located(p.place, lookup::name(dictionary, id), out),
+        Located::At(p) => located(p.place, handed(dictionary, id), out),
         Located::Refused(r) => text::with_refusal(out, r),
     }
 }
