@@ -1,111 +1,77 @@
 #include "book.h"
 
-#include "bytes.h"
-#include "format.h"
-#include "hplog.h"
+#include "blocks.h"
 #include "message.h"
 #include "progress.h"
 #include "status.h"
 #include "text.h"
 
-#include <stdbool.h>
-#include <string.h>
+#include <stdio.h>
+#include <stdlib.h>
 
-#define FIRST_PART 5
-
-/* The part at *at, where it is whole; steps past it. */
-static bool next_part(const input *book, size_t *at, book_part *part)
+hplog_answer book_dictionary(const input *book, book_part *dictionary)
 {
-    if (book->length - *at < 4)
-        return false;
-    uint32_t length = bytes_u32(book->bytes + *at);
-    if (book->length - *at - 4 < length)
-        return false;
-    *part = (book_part){book->bytes + *at + 4, length};
-    *at += 4 + (size_t)length;
-    return true;
-}
-
-book_refusal book_dictionary(const input *book, book_part *dictionary)
-{
-    size_t at = FIRST_PART;
-    if (book->length < 3 || memcmp(book->bytes, "PLB", 3) != 0)
-        return (book_refusal){2, 0};
-    if (book->length < FIRST_PART || bytes_u16(book->bytes + 3) != 1)
-        return (book_refusal){3, 3};
-    do {
-        if (!next_part(book, &at, dictionary))
-            return (book_refusal){6, at};
-    } while (at < book->length);
-    return (book_refusal){0, 0};
+    hplog_answer parts = hplog_book_parts(book->bytes, book->length);
+    if (parts.number == 0) {
+        hplog_answer last = hplog_book_part(book->bytes, book->length, parts.place);
+        *dictionary = (book_part){book->bytes + last.place, (size_t)last.count};
+    }
+    return parts;
 }
 
 size_t book_offset(const input *book, uint32_t number)
 {
-    book_part part;
-    size_t at = FIRST_PART;
-    for (uint32_t i = 0; i < number && next_part(book, &at, &part); i++)
-        ;
-    return at;
+    uint64_t at = HPLOG_BOOK_FIRST;
+    for (uint32_t i = 0; i < number; i++) {
+        hplog_answer part = hplog_book_part(book->bytes, book->length, at);
+        at = part.place + part.count;
+    }
+    return (size_t)at;
 }
 
-/* Walks the entry at *at; false where a step is refused. */
-static bool next_entry(const book_part *plain, uint32_t names, hplog_cursor *at, uint64_t *delta)
+/* Finds the first block whose plain entries are refused, of a log and a book that have passed all rules before 11; count
+ * = its number. Refused by the call that refuses, which none does unless a file is changed meanwhile. */
+static hplog_answer find_block(const input *log, uint8_t *rows, size_t length, const input *book)
 {
-    hplog_step step = hplog_delta(plain->bytes, plain->length, *at);
-    if (step.number != 0)
-        return false;
-    *delta = step.value;
-    step = hplog_count(plain->bytes, plain->length, step.next);
-    *at = step.next;
-    for (uint64_t i = 0; step.number == 0 && i < step.value; i++) {
-        hplog_field_step field = hplog_field(plain->bytes, plain->length, names, *at);
-        if (field.number != 0)
-            return false;
-        *at = field.next;
+    uint8_t frame[HPLOG_FRAME];
+    hplog_answer opened = hplog_open(log->bytes, log->length, rows, length, frame, sizeof frame);
+    if (opened.number != 0)
+        return opened;
+    hplog_answer dictionary = hplog_book(book->bytes, book->length, (uint32_t)opened.count);
+    if (dictionary.number != 0)
+        return dictionary;
+    hplog_answer names = hplog_names(book->bytes + dictionary.place, (size_t)dictionary.count);
+    if (names.number != 0)
+        return names;
+    uint64_t at = HPLOG_BOOK_FIRST;
+    for (uint64_t i = 0;; i++) {
+        hplog_answer stored = hplog_stored(log->bytes, log->length, rows, (size_t)opened.count * HPLOG_ROW, i);
+        if (stored.number != 0)
+            return stored;
+        hplog_answer plain = hplog_book_part(book->bytes, book->length, at);
+        hplog_answer entries = hplog_check_block(log->bytes, log->length, stored.place - HPLOG_BLOCK_HEADER,
+                                                 book->bytes + plain.place, (size_t)plain.count, (uint32_t)names.count);
+        if (entries.number != 0)
+            return (hplog_answer){.count = i};
+        at = plain.place + plain.count;
     }
-    return step.number == 0;
-}
-
-/* Whether plain bytes are the entries that a block's header announces. */
-static bool are_entries_right(const uint8_t *header, const book_part *plain, uint32_t names)
-{
-    uint64_t delta = 0, before = 0, entries = 0, start = bytes_u64(header + BLOCK_START);
-    hplog_cursor at = {0};
-    while (at.at < plain->length) {
-        if (!next_entry(plain, names, &at, &delta) || delta < before || (entries == 0 && delta != 0))
-            return false;
-        before = delta;
-        entries++;
-    }
-    if (entries != bytes_u32(header + BLOCK_ENTRIES) || plain->length != bytes_u32(header + BLOCK_PLAIN))
-        return false;
-    return bytes_u64(header + BLOCK_END) - start == delta;
-}
-
-/* The first block with wrong entries. Log and book have passed all rules that come before 11. */
-static uint64_t wrong_block(const input *log, const input *book)
-{
-    book_part plain, dictionary;
-    book_dictionary(book, &dictionary);
-    uint32_t names = bytes_u32(dictionary.bytes);
-    const uint8_t *header = log->bytes + HPLOG_HEADER;
-    size_t at = FIRST_PART;
-    uint64_t block = 0;
-    while (next_part(book, &at, &plain) && are_entries_right(header, &plain, names)) {
-        header += HPLOG_BLOCK_HEADER + (size_t)bytes_u32(header + BLOCK_STORED);
-        block++;
-    }
-    return block;
 }
 
 int book_refused_entries(const input *log, const input *book, uint64_t place)
 {
     char text[TEXT_NUMBER];
+    size_t length;
+    uint8_t *rows = blocks_rows(log, &length);
+    if (rows == NULL)
+        return STATUS_ERROR;
     progress_begin("checking");
-    unsigned long long block = wrong_block(log, book);
+    hplog_answer block = find_block(log, rows, length, book);
     progress_end();
+    free(rows);
+    if (block.number != 0)
+        return message_fault(book->name, "this book, or its log, was changed while it was read");
     message_refused(11, place, book->name);
-    fprintf(stderr, "plain entries are wrong in block %llu, byte %s of its plain bytes\n", block, text_number(place, text));
+    fprintf(stderr, "plain entries are wrong in block %llu, byte %s of its plain bytes\n",
+            (unsigned long long)block.count, text_number(place, text));
     return STATUS_REFUSED;
 }

@@ -1,7 +1,8 @@
-/* Plain books: a mark, a version, and parts of a length and so many bytes, the last of which is the plain dictionary. */
+/* Plain books: where their parts stand, and which block of a log and its book is refused. */
 #ifndef HOST_BOOK_H
 #define HOST_BOOK_H
 
+#include "hplog.h"
 #include "input.h"
 
 #include <stddef.h>
@@ -12,18 +13,15 @@ typedef struct {
     size_t length;
 } book_part;
 
-typedef struct {
-    uint64_t number, place;
-} book_refusal;
-
-/* Finds the dictionary of a book whose number of blocks is not known: the parts run to the book's end, and the last one is the dictionary.
- * Refused as the listing refuses a book: 2 its mark, 3 its version, 6 where a part is missing or cut, at that part's length field. */
-book_refusal book_dictionary(const input *book, book_part *dictionary);
+/* Finds the plain dictionary of a book whose number of blocks is not known. The answer is that of hplog_book_parts; on a
+ * refusal there is no dictionary. */
+hplog_answer book_dictionary(const input *book, book_part *dictionary);
 
 /* Where a part stands, of a book that has it. */
 size_t book_offset(const input *book, uint32_t number);
 
-/* Prints the refusal of wrong plain entries of a log and book that the library has refused with 11, and names the block; gives the status back. */
+/* Prints the refusal of wrong plain entries of a log and book that the library has refused with 11, and names the block;
+ * gives the status back. */
 int book_refused_entries(const input *log, const input *book, uint64_t place);
 
 #endif

@@ -31,11 +31,11 @@ static int names(const input *book, bool is_plain)
 {
     char text[TEXT_NUMBER];
     book_part dictionary;
-    book_refusal refusal = book_dictionary(book, &dictionary);
-    if (refusal.number != 0)
-        return words_refused_book(book->name, refusal.number, refusal.place);
+    hplog_answer answer = book_dictionary(book, &dictionary);
+    if (answer.number != 0)
+        return words_refused_book(book->name, answer.number, answer.place);
     progress_begin("checking");
-    hplog_answer answer = hplog_names(dictionary.bytes, dictionary.length);
+    answer = hplog_names(dictionary.bytes, dictionary.length);
     progress_end();
     if (answer.number != 0)
         return words_refused_book(book->name, answer.number, answer.place);

@@ -42,6 +42,7 @@ extern "C" {
 #define HPLOG_PANEL 16        /* bytes of a panel, see hplog_label */
 #define HPLOG_FIELD 24        /* bytes of a field to write, see hplog_add_entry */
 #define HPLOG_BLOCKS 4096     /* the most blocks that a file has */
+#define HPLOG_BOOK_FIRST 5    /* where the first part of a plain book stands, see hplog_book_part */
 #define HPLOG_RUN 1           /* the kind of a listing that a program makes of a run of blocks, see hplog_listing */
 #define HPLOG_PIECE 50        /* an output of so many bytes has room for some of any listing that is left */
 
@@ -81,6 +82,17 @@ hplog_answer hplog_repair(const uint8_t *log, size_t log_len, const uint8_t *dic
  * Refusals in order: 15; 12. */
 hplog_answer hplog_label(const uint8_t *name, size_t name_len, uint8_t *panel, size_t panel_len);
 
+/* ---- stored bytes ---- */
+
+/* Finds the stored bytes of block i of a file by its rows; place = the offset of the first, count = how many they are.
+ * The rows are those that hplog_open or hplog_recover wrote, rows_len / 28 of them. A row that points past the end of
+ * the file has no bytes there. Refusal: (14, i) where there is no row i. */
+hplog_answer hplog_stored(const uint8_t *log, size_t log_len, const uint8_t *rows, size_t rows_len, uint64_t i);
+
+/* Finds the stored bytes of the dictionary by the frame that hplog_open wrote; place and count as above. A frame that is
+ * cut reads as zeros past its end. No refusals. */
+hplog_answer hplog_dictionary(const uint8_t *log, size_t log_len, const uint8_t *frame, size_t frame_len);
+
 /* ---- plain dictionaries ---- */
 
 /* Checks a plain dictionary; count = names. Refusal: 10 (place: the offset of the field at fault; a name's bytes where they are not UTF-8 or equal
@@ -89,6 +101,10 @@ hplog_answer hplog_names(const uint8_t *dictionary, size_t dictionary_len);
 
 /* Finds name i of a plain dictionary; place = the offset of its bytes, count = how many they are. Refusals in order: 10; (14, i). */
 hplog_answer hplog_name(const uint8_t *dictionary, size_t dictionary_len, uint64_t i);
+
+/* Finds the number of a name in a plain dictionary; place = 1 and count = the number, and both are 0 where there is no
+ * such name. Refusal: 10. */
+hplog_answer hplog_number(const uint8_t *dictionary, size_t dictionary_len, const uint8_t *name, size_t name_len);
 
 /* ---- plain blocks, step by step ----
  * A block's plain bytes are entries: a delta, a field count, so many fields. A step takes a position and gives the next one back; the first is 0.
@@ -116,6 +132,36 @@ hplog_step hplog_delta(const uint8_t *payload, size_t payload_len, hplog_cursor 
 hplog_step hplog_count(const uint8_t *payload, size_t payload_len, hplog_cursor at);
 /* names: how many names there are; an id that is not below it is 11 */
 hplog_field_step hplog_field(const uint8_t *payload, size_t payload_len, uint32_t names, hplog_cursor at);
+
+/* ---- plain blocks, whole ---- */
+
+/* Checks the plain bytes of the block whose header stands at an offset of the log; count = entries. names: as in
+ * hplog_field.
+ * Refusals in order: (6, at) where the log ends within the header or before it; 11 (place: in plain, as in the steps; a
+ * delta that is not 0 in the first entry, falls or takes the time past 64 bits where it stands; plain_len where the last
+ * time, the number of entries or the plain size is not the header's; 0 where there are no entries). */
+hplog_answer hplog_check_block(const uint8_t *log, size_t log_len, uint64_t at, const uint8_t *plain, size_t plain_len,
+                               uint32_t names);
+
+/* ---- plain books ----
+ * A plain book: mark PLB, u16 version 1, then parts end to end, each a u32 length and so many plain bytes: one for each
+ * block of a log, in order, and last one for its dictionary. A part stands where its length does.
+ * Refusals in order: (2, 0) the mark; (3, 3) the version, or where it is cut; (6, where it stands) for a part that is
+ * missing or cut. */
+
+/* Checks the book of a log with so many blocks, and finds its plain dictionary; place = the offset of the first byte,
+ * count = how many there are. Refusals: the book's; last (6, offset) of the first byte that is left over. */
+hplog_answer hplog_book(const uint8_t *book, size_t book_len, uint32_t blocks);
+
+/* Checks a book whose log is not at hand: its parts go on to its end, and there is one at least. count = parts, of which
+ * the last is the dictionary; place = where that stands. Refusals: the book's. hplog_book accepts a book with count - 1
+ * blocks, and with no other number. */
+hplog_answer hplog_book_parts(const uint8_t *book, size_t book_len);
+
+/* Finds the plain bytes of the part that stands at an offset, the first at HPLOG_BOOK_FIRST; place and count as in
+ * hplog_book. The next part stands right behind them. What would lie past the book's end is not there. No refusals: the
+ * offsets of a book that was accepted are right, and nothing else is checked. */
+hplog_answer hplog_book_part(const uint8_t *book, size_t book_len, uint64_t at);
 
 /* ---- the listing ----
  * A log with its plain book (mark PLB, u16 version 1, then u32 length and plain bytes for each block, and last for the dictionary), as text:

@@ -103,6 +103,7 @@ def books(suite):
         (BOOK[:4], 3, 3, version),
         (patched(BOOK, 3, ("H", 2)), 3, 3, version),
         (BOOK[:5], 6, 5, f"{part}, byte 5"),
+        (patched(BOOK, 5, ("I", end)), 6, 5, f"{part}, byte 5"),
         (BOOK[:-1], 6, last, f"{part}, byte {last:,}"),
         (BOOK + b"123", 6, end, f"{part}, byte {end:,}"),
         (patched(BOOK, last + 4, ("I", 5)), 10, len(NAMES) - 10, f"the plain dictionary is wrong, byte {len(NAMES) - 10} of it"),
@@ -132,6 +133,16 @@ def entries(suite):
             suite.refused(["read", log, book], 11, place, book, text)
 
 
+def disagreeing(suite):
+    """Headers with another number of entries or another plain size, which opening cannot see: the first is named."""
+    book = suite.path("good.plb", BOOK)
+    for field in (20, 28):
+        content = patched(patched(WHOLE, AT[6] + field, ("I", 99999)), AT[3] + field, ("I", 99999))
+        log, place = suite.path("other.hplog", content), len(PLAINS[3])
+        text = f"plain entries are wrong in block 3, byte {place:,} of its plain bytes"
+        suite.refused(["cat", log, book], 11, place, book, text)
+
+
 def falling(suite):
     """A delta that falls in the middle, with the right end, count and size."""
     good, bad = (b"".join(maker.entry(delta, []) for delta in deltas) for deltas in ((0, 3, 9, 20), (0, 9, 3, 20)))
@@ -140,4 +151,4 @@ def falling(suite):
     suite.refused(["cat", log, book], 11, 4, book, "plain entries are wrong in block 1, byte 4 of its plain bytes")
 
 
-GROUPS = [opened, recovered, stops, books, entries, falling]
+GROUPS = [opened, recovered, stops, books, entries, disagreeing, falling]

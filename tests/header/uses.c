@@ -32,11 +32,18 @@ static const struct {
     hplog_answer (*recover)(const uint8_t *, size_t, uint8_t *, size_t, uint8_t *, size_t);
     hplog_answer (*repair)(const uint8_t *, size_t, const uint8_t *, size_t, uint8_t *, size_t);
     hplog_answer (*label)(const uint8_t *, size_t, uint8_t *, size_t);
+    hplog_answer (*stored)(const uint8_t *, size_t, const uint8_t *, size_t, uint64_t);
+    hplog_answer (*dictionary)(const uint8_t *, size_t, const uint8_t *, size_t);
     hplog_answer (*names)(const uint8_t *, size_t);
     hplog_answer (*name)(const uint8_t *, size_t, uint64_t);
+    hplog_answer (*number)(const uint8_t *, size_t, const uint8_t *, size_t);
     hplog_step (*delta)(const uint8_t *, size_t, hplog_cursor);
     hplog_step (*count)(const uint8_t *, size_t, hplog_cursor);
     hplog_field_step (*field)(const uint8_t *, size_t, uint32_t, hplog_cursor);
+    hplog_answer (*check_block)(const uint8_t *, size_t, uint64_t, const uint8_t *, size_t, uint32_t);
+    hplog_answer (*book)(const uint8_t *, size_t, uint32_t);
+    hplog_answer (*book_parts)(const uint8_t *, size_t);
+    hplog_answer (*book_part)(const uint8_t *, size_t, uint64_t);
     hplog_listed (*list)(const uint8_t *, size_t, const uint8_t *, size_t);
     hplog_listed (*list_next)(const uint8_t *, size_t, const uint8_t *, size_t, hplog_listing, uint8_t *, size_t);
     hplog_writer (*writer_new)(void);
@@ -45,8 +52,10 @@ static const struct {
     hplog_written (*add_entry)(hplog_writer, uint8_t *, size_t, uint64_t, const uint8_t *, size_t, const uint8_t *, size_t);
     hplog_written (*add_block)(hplog_writer, uint8_t *, size_t, uint8_t *, size_t, uint64_t, const uint8_t *, size_t, const uint8_t *, size_t, uint32_t);
     hplog_written (*close)(hplog_writer, const uint8_t *, size_t, uint8_t *, size_t, const uint8_t *, size_t, const uint8_t *, size_t);
-} calls = {hplog_open,  hplog_query, hplog_recover, hplog_repair,    hplog_label,      hplog_names, hplog_name,     hplog_delta,     hplog_count,
-           hplog_field, hplog_list,  hplog_list_next, hplog_writer_new, hplog_begin, hplog_add_name, hplog_add_entry, hplog_add_block, hplog_close};
+} calls = {hplog_open, hplog_query, hplog_recover, hplog_repair, hplog_label, hplog_stored, hplog_dictionary,
+           hplog_names, hplog_name, hplog_number, hplog_delta, hplog_count, hplog_field, hplog_check_block,
+           hplog_book, hplog_book_parts, hplog_book_part, hplog_list, hplog_list_next, hplog_writer_new, hplog_begin,
+           hplog_add_name, hplog_add_entry, hplog_add_block, hplog_close};
 
 static int failed;
 
@@ -71,6 +80,10 @@ static void put_field(uint8_t *field, unsigned id, unsigned type, uint64_t bits,
         field[8 + i] = (uint8_t)(bits >> 8 * i);
         field[16 + i] = (uint8_t)(length >> 8 * i);
     }
+}
+
+static int found(hplog_answer answer, uint64_t place, uint64_t count) {
+    return accepted(answer, count) && answer.place == place;
 }
 
 static int refused(hplog_answer answer, uint64_t number, uint64_t place) {
@@ -108,8 +121,9 @@ static void small_file(void) {
     static const char text[] = "blocks 1 entries 2\n1000 wet=i:-42\n1005 site=s:\"B7\" wet=n\n";
     static const uint8_t stored[] = {0xAA, 0xBB, 0xCC}, stored_names[] = {0x5A}, letters[] = {'B', '7'};
     const uint8_t *site = (const uint8_t *)"site", *wet = (const uint8_t *)"wet";
-    uint8_t log[176], last[137], names[19], plain[26], rows[HPLOG_ROW], found[HPLOG_ROW], frame[HPLOG_FRAME], report[HPLOG_REPORT], fixed[176];
-    uint8_t room[65536], fields[2 * HPLOG_FIELD], numbers[4], panel[HPLOG_PANEL], book[58], out[HPLOG_PIECE + 100];
+    uint8_t log[176], last[137], fixed[176], names[19], plain[26], rows[HPLOG_ROW], table[HPLOG_ROW];
+    uint8_t frame[HPLOG_FRAME], report[HPLOG_REPORT], fields[2 * HPLOG_FIELD], numbers[4], panel[HPLOG_PANEL], book[58];
+    uint8_t out[HPLOG_PIECE + 100], room[65536];
     size_t listed = 0;
     hplog_written written = calls.begin(calls.writer_new(), log, HPLOG_HEADER);
     hplog_listed piece;
@@ -133,8 +147,8 @@ static void small_file(void) {
                               sizeof stored, 2);
     check(accepted(written.answer, HPLOG_BLOCK_HEADER + sizeof stored), "add_block");
 
-    check(accepted(calls.recover(log, 103, found, sizeof found, report, sizeof report), 1), "K9, the whole block");
-    check(accepted(calls.recover(log, 102, found, sizeof found, report, sizeof report), 0), "K9, the cut block");
+    check(accepted(calls.recover(log, 103, table, sizeof table, report, sizeof report), 1), "K9, the whole block");
+    check(accepted(calls.recover(log, 102, table, sizeof table, report, sizeof report), 0), "K9, the cut block");
     check(accepted(calls.repair(log, 103, stored_names, sizeof stored_names, fixed, sizeof fixed), sizeof fixed), "repair");
     written = calls.close(written.next, rows, sizeof rows, last, sizeof last, names, sizeof names, stored_names, sizeof stored_names);
     check(accepted(written.answer, sizeof last), "close");
@@ -142,8 +156,8 @@ static void small_file(void) {
     memcpy(log + 103, last + HPLOG_HEADER, sizeof last - HPLOG_HEADER);
     check(memcmp(log, fixed, sizeof log) == 0, "repair gives the finished file");
 
-    check(accepted(calls.open(log, sizeof log, found, sizeof found, frame, sizeof frame), 1), "open");
-    check(memcmp(rows, found, sizeof rows) == 0, "open gives the writer's rows");
+    check(accepted(calls.open(log, sizeof log, table, sizeof table, frame, sizeof frame), 1), "open");
+    check(memcmp(rows, table, sizeof rows) == 0, "open gives the writer's rows");
     check(frame[0] == 103 && frame[8] == 1 && frame[16] == 108, "open's frame");
     memset(room, 0x5A, sizeof room);
     check(accepted(calls.open(log, sizeof log, room, sizeof room, frame, sizeof frame), 1), "open with room to spare");
@@ -158,6 +172,14 @@ static void small_file(void) {
     check(accepted(calls.label(wet, 3, panel, sizeof panel), 0) && memcmp(panel, "wet             ", sizeof panel) == 0, "label");
     check(accepted(calls.names(names, sizeof names), 2), "names");
     check(accepted(calls.name(names, sizeof names, 1), 3) && calls.name(names, sizeof names, 1).place == 16, "name");
+    check(found(calls.number(names, sizeof names, wet, 3), 1, 1), "number");
+    check(found(calls.number(names, sizeof names, wet, 2), 0, 0), "number of a name that is not there");
+    check(found(calls.stored(log, sizeof log, table, sizeof table, 0), 100, sizeof stored), "stored");
+    check(refused(calls.stored(log, sizeof log, table, sizeof table, 1), 14, 1), "stored of a block that is not there");
+    check(found(calls.dictionary(log, sizeof log, frame, sizeof frame), 107, sizeof stored_names), "dictionary");
+    check(accepted(calls.check_block(log, sizeof log, HPLOG_HEADER, plain, sizeof plain, 2), 2), "check_block");
+    check(refused(calls.check_block(log, sizeof log, HPLOG_HEADER, plain, 25, 2), 11, 25), "check_block, plain cut");
+    check(refused(calls.check_block(log, 99, HPLOG_HEADER, plain, sizeof plain, 2), 6, 64), "check_block, header cut");
 
     step = calls.delta(plain, sizeof plain, cursor);
     check(step.number == 0 && step.value == 0 && step.next.at == 1, "delta");
@@ -170,6 +192,11 @@ static void small_file(void) {
     memcpy(book + 9, plain, sizeof plain);
     memcpy(book + 35, "\23\0\0\0", 4);
     memcpy(book + 39, names, sizeof names);
+    check(found(calls.book(book, sizeof book, 1), 39, sizeof names), "book");
+    check(refused(calls.book(book, sizeof book, 0), 6, 35), "book of too many parts");
+    check(found(calls.book_parts(book, sizeof book), 35, 2), "book_parts");
+    check(refused(calls.book_parts(book, sizeof book - 1), 6, 35), "book_parts of a cut one");
+    check(found(calls.book_part(book, sizeof book, HPLOG_BOOK_FIRST), 9, sizeof plain), "book_part");
     piece = calls.list(log, sizeof log, book, sizeof book);
     check(accepted(piece.answer, 2), "list");
     do {

@@ -19,11 +19,18 @@ hplog_answer hplog_query(const uint8_t *, size_t, uint64_t, uint64_t, uint8_t *,
 hplog_answer hplog_recover(const uint8_t *, size_t, uint8_t *, size_t, uint8_t *, size_t);
 hplog_answer hplog_repair(const uint8_t *, size_t, const uint8_t *, size_t, uint8_t *, size_t);
 hplog_answer hplog_label(const uint8_t *, size_t, uint8_t *, size_t);
+hplog_answer hplog_stored(const uint8_t *, size_t, const uint8_t *, size_t, uint64_t);
+hplog_answer hplog_dictionary(const uint8_t *, size_t, const uint8_t *, size_t);
 hplog_answer hplog_names(const uint8_t *, size_t);
 hplog_answer hplog_name(const uint8_t *, size_t, uint64_t);
+hplog_answer hplog_number(const uint8_t *, size_t, const uint8_t *, size_t);
 hplog_step hplog_delta(const uint8_t *, size_t, hplog_cursor);
 hplog_step hplog_count(const uint8_t *, size_t, hplog_cursor);
 hplog_field_step hplog_field(const uint8_t *, size_t, uint32_t, hplog_cursor);
+hplog_answer hplog_check_block(const uint8_t *, size_t, uint64_t, const uint8_t *, size_t, uint32_t);
+hplog_answer hplog_book(const uint8_t *, size_t, uint32_t);
+hplog_answer hplog_book_parts(const uint8_t *, size_t);
+hplog_answer hplog_book_part(const uint8_t *, size_t, uint64_t);
 hplog_listed hplog_list(const uint8_t *, size_t, const uint8_t *, size_t);
 hplog_listed hplog_list_next(const uint8_t *, size_t, const uint8_t *, size_t, hplog_listing, uint8_t *, size_t);
 hplog_writer hplog_writer_new(void);

@@ -31,11 +31,18 @@ mod foreign {
         pub fn hplog_recover(log: *const u8, log_len: usize, rows: *mut u8, rows_len: usize, report: *mut u8, report_len: usize) -> Answer;
         pub fn hplog_repair(log: *const u8, log_len: usize, dictionary: *const u8, dictionary_len: usize, out: *mut u8, out_len: usize) -> Answer;
         pub fn hplog_label(name: *const u8, name_len: usize, panel: *mut u8, panel_len: usize) -> Answer;
+        pub fn hplog_stored(log: *const u8, log_len: usize, rows: *const u8, rows_len: usize, i: u64) -> Answer;
+        pub fn hplog_dictionary(log: *const u8, log_len: usize, frame: *const u8, frame_len: usize) -> Answer;
         pub fn hplog_names(dictionary: *const u8, dictionary_len: usize) -> Answer;
         pub fn hplog_name(dictionary: *const u8, dictionary_len: usize, i: u64) -> Answer;
+        pub fn hplog_number(dictionary: *const u8, dictionary_len: usize, name: *const u8, name_len: usize) -> Answer;
         pub fn hplog_delta(payload: *const u8, payload_len: usize, at: Cursor) -> Step;
         pub fn hplog_count(payload: *const u8, payload_len: usize, at: Cursor) -> Step;
         pub fn hplog_field(payload: *const u8, payload_len: usize, names: u32, at: Cursor) -> FieldStep;
+        pub fn hplog_check_block(log: *const u8, log_len: usize, at: u64, plain: *const u8, plain_len: usize, names: u32) -> Answer;
+        pub fn hplog_book(book: *const u8, book_len: usize, blocks: u32) -> Answer;
+        pub fn hplog_book_parts(book: *const u8, book_len: usize) -> Answer;
+        pub fn hplog_book_part(book: *const u8, book_len: usize, at: u64) -> Answer;
         pub fn hplog_list(log: *const u8, log_len: usize, book: *const u8, book_len: usize) -> Listed;
         pub fn hplog_list_next(log: *const u8, log_len: usize, book: *const u8, book_len: usize, at: Listing, out: *mut u8, out_len: usize)
             -> Listed;
@@ -101,12 +108,24 @@ pub fn label(name: &[u8], panel: &mut [u8]) -> Answer {
     unsafe { foreign::hplog_label(name.as_ptr(), name.len(), panel.as_mut_ptr(), panel.len()) }
 }
 
+pub fn stored(log: &[u8], rows: &[u8], i: u64) -> Answer {
+    unsafe { foreign::hplog_stored(log.as_ptr(), log.len(), rows.as_ptr(), rows.len(), i) }
+}
+
+pub fn dictionary(log: &[u8], frame: &[u8]) -> Answer {
+    unsafe { foreign::hplog_dictionary(log.as_ptr(), log.len(), frame.as_ptr(), frame.len()) }
+}
+
 pub fn names(dictionary: &[u8]) -> Answer {
     unsafe { foreign::hplog_names(dictionary.as_ptr(), dictionary.len()) }
 }
 
 pub fn name(dictionary: &[u8], i: u64) -> Answer {
     unsafe { foreign::hplog_name(dictionary.as_ptr(), dictionary.len(), i) }
+}
+
+pub fn number(dictionary: &[u8], name: &[u8]) -> Answer {
+    unsafe { foreign::hplog_number(dictionary.as_ptr(), dictionary.len(), name.as_ptr(), name.len()) }
 }
 
 pub fn delta(payload: &[u8], at: Cursor) -> Step {
@@ -119,6 +138,22 @@ pub fn count(payload: &[u8], at: Cursor) -> Step {
 
 pub fn field(payload: &[u8], names: u32, at: Cursor) -> FieldStep {
     unsafe { foreign::hplog_field(payload.as_ptr(), payload.len(), names, at) }
+}
+
+pub fn check_block(log: &[u8], at: u64, plain: &[u8], names: u32) -> Answer {
+    unsafe { foreign::hplog_check_block(log.as_ptr(), log.len(), at, plain.as_ptr(), plain.len(), names) }
+}
+
+pub fn book(book: &[u8], blocks: u32) -> Answer {
+    unsafe { foreign::hplog_book(book.as_ptr(), book.len(), blocks) }
+}
+
+pub fn book_parts(book: &[u8]) -> Answer {
+    unsafe { foreign::hplog_book_parts(book.as_ptr(), book.len()) }
+}
+
+pub fn book_part(book: &[u8], at: u64) -> Answer {
+    unsafe { foreign::hplog_book_part(book.as_ptr(), book.len(), at) }
 }
 
 pub fn list(log: &[u8], book: &[u8]) -> Listed {

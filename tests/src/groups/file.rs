@@ -1,4 +1,4 @@
-//! Open, query, recover and repair.
+//! Open, query, recover and repair, and where stored bytes stand.
 
 use crate::check::{awkward, filled, Check};
 use crate::edge;
@@ -167,5 +167,54 @@ pub fn query(check: &mut Check, random: &mut Random) {
         &mut outputs,
         |[rows], [numbers]| reference::query(rows, t1, t2, numbers),
         |[rows], [numbers]| edge::query(rows, t1, t2, numbers),
+    );
+}
+
+/// The rows and the frame of a log, by chance with a number changed or cut.
+fn parts_of(random: &mut Random, log: &[u8]) -> (Vec<u8>, Vec<u8>) {
+    let count = reference::opened(log).map_or(0, |(rows, _)| rows.len());
+    let (mut rows, mut frame) = (vec![0; ROW * count], vec![0; 40]);
+    reference::open(log, &mut rows, &mut frame);
+    if random.once_in(3) {
+        for (table, fields) in [(&mut rows, &[(16, 8), (24, 4)]), (&mut frame, &[(0, 8), (8, 8)])] {
+            let (at, width) = random.pick(fields);
+            let at = if table.len() == 40 { at } else { at + ROW * random.below(count.max(1)) };
+            let near = [log.len() as u64, log.len() as u64 - 36, 0, u64::MAX, u64::MAX - 3, u64::MAX - 35, 1 << 32];
+            if at < table.len() {
+                let value = if random.once_in(2) { random.pick(&near) } else { random.edge() };
+                reference::put(table, at, width, value);
+            }
+        }
+    }
+    if random.once_in(4) {
+        rows.truncate(random.below(rows.len() + 1));
+        frame.truncate(random.below(frame.len() + 1));
+    }
+    (rows, frame)
+}
+
+pub fn stored(check: &mut Check, random: &mut Random) {
+    let mut log = make::file(random).log;
+    let (rows, frame) = parts_of(random, &log);
+    if random.once_in(4) {
+        log.truncate(random.below(log.len() + 1));
+    }
+    let count = rows.len() / ROW;
+    for _ in 0..3 {
+        let i = if random.once_in(5) { random.edge() } else { random.below(count + 2) as u64 };
+        check.call(
+            &format!("stored {i}"),
+            [&log, &rows],
+            &mut [],
+            |[log, rows], []| reference::stored(log, rows, i),
+            |[log, rows], []| edge::stored(log, rows, i),
+        );
+    }
+    check.call(
+        "dictionary",
+        [&log, &frame],
+        &mut [],
+        |[log, frame], []| reference::dictionary(log, frame),
+        |[log, frame], []| edge::dictionary(log, frame),
     );
 }

@@ -1,4 +1,4 @@
-//! A log with its book, as text in pieces.
+//! A log with its book: each block's plain bytes, the book by itself, and both as text in pieces.
 
 use crate::check::{filled, Check};
 use crate::edge::{self, Listed, Listing, PIECE};
@@ -47,6 +47,78 @@ fn disagreeing(random: &mut Random, made: &MadeFile) -> Vec<u8> {
         reference::put(&mut log, at, 4, other);
     }
     log
+}
+
+/// The plain bytes of each block against the header of that block or another, which may be changed or cut.
+pub fn block(check: &mut Check, random: &mut Random) {
+    let mut made = make::file(random);
+    if random.once_in(2) {
+        damage_block(random, &mut made);
+    }
+    let mut log = if random.once_in(3) { disagreeing(random, &made) } else { made.log.clone() };
+    if random.once_in(6) {
+        log.truncate(random.below(log.len() + 1));
+    }
+    let mut at = 64;
+    for (i, block) in made.blocks.iter().enumerate().take(6) {
+        let place = match random.below(10) {
+            0 => random.edge(),
+            1 => (log.len() as u64).saturating_sub(random.below(40) as u64),
+            _ => at as u64,
+        };
+        let plain = if random.once_in(8) { &made.blocks[random.below(i + 1)].plain } else { &block.plain };
+        let names = if random.once_in(8) { random.below(4) as u32 } else { made.names.len() as u32 };
+        check.call(
+            &format!("check_block at {place} with {names} names"),
+            [&log, plain],
+            &mut [],
+            |[log, plain], []| reference::check_block(log, place, plain, names),
+            |[log, plain], []| edge::check_block(log, place, plain, names),
+        );
+        at += 36 + block.stored.len();
+    }
+}
+
+/// A book by itself: with the blocks that it has, with other numbers, without one, and part by part.
+pub fn book(check: &mut Check, random: &mut Random) {
+    let made = make::file(random);
+    let book = match random.below(12) {
+        0 => make::any_bytes(random),
+        1 => b"PLB\x01\0\0\0\0\0"[..5 + random.below(5)].to_vec(),
+        2..=6 => make::damaged_book(random, &made),
+        _ => made.book(),
+    };
+    let whole = check.call("book_parts", [&book], &mut [], |[book], []| reference::book_parts(book), |[book], []| edge::book_parts(book));
+    let count = made.blocks.len() as u32;
+    for blocks in [count, (whole.count as u32).wrapping_sub(1), random.below(count as usize + 3) as u32, random.edge() as u32] {
+        check.call(
+            &format!("book of {blocks} blocks"),
+            [&book],
+            &mut [],
+            |[book], []| reference::book(book, blocks),
+            |[book], []| edge::book(book, blocks),
+        );
+    }
+    let mut at = reference::FIRST as u64;
+    for _ in 0..=count.min(8) {
+        at = part(check, &book, at);
+    }
+    let near = (book.len() as u64).saturating_sub(random.below(8) as u64);
+    for at in [near, random.edge(), random.below(book.len() + 2) as u64, u64::MAX - random.below(6) as u64] {
+        part(check, &book, at);
+    }
+}
+
+/// The part at a place; gives the place behind it back.
+fn part(check: &mut Check, book: &[u8], at: u64) -> u64 {
+    let found = check.call(
+        &format!("book_part at {at}"),
+        [book],
+        &mut [],
+        |[book], []| reference::book_part(book, at),
+        |[book], []| edge::book_part(book, at),
+    );
+    found.place + found.count
 }
 
 pub fn list(check: &mut Check, random: &mut Random) {

@@ -17,15 +17,19 @@ pub struct Group {
     pub run: fn(&mut Check, &mut Random),
 }
 
-pub const GROUPS: [Group; 14] = [
+pub const GROUPS: [Group; 18] = [
     Group { name: "open", cases: 6000, run: file::open },
     Group { name: "query", cases: 20_000, run: file::query },
     Group { name: "recover", cases: 6000, run: file::recover },
     Group { name: "repair", cases: 6000, run: file::repair },
+    Group { name: "stored", cases: 6000, run: file::stored },
     Group { name: "label", cases: 10_000, run: plain::label },
     Group { name: "names", cases: 10_000, run: plain::names },
     Group { name: "name", cases: 10_000, run: plain::name },
+    Group { name: "number", cases: 4000, run: plain::number },
     Group { name: "steps", cases: 4000, run: plain::steps },
+    Group { name: "block", cases: 6000, run: list::block },
+    Group { name: "book", cases: 6000, run: list::book },
     Group { name: "list", cases: 5000, run: list::list },
     Group { name: "writer", cases: 2000, run: writer::writer },
     Group { name: "demand2", cases: 600, run: demand::finished },

@@ -76,6 +76,37 @@ pub fn name(check: &mut Check, random: &mut Random) {
     }
 }
 
+pub fn number(check: &mut Check, random: &mut Random) {
+    let dictionary = dictionary(random);
+    let places = reference::name_places(&dictionary).unwrap_or_default();
+    for _ in 0..1 + random.below(3) {
+        let name = asked(random, &dictionary, &places);
+        check.call(
+            "number",
+            [&dictionary, &name],
+            &mut [],
+            |[dictionary, name], []| reference::number(dictionary, name),
+            |[dictionary, name], []| edge::number(dictionary, name),
+        );
+    }
+}
+
+/// A name that is held, one that differs from it in a byte or its length, or any other.
+fn asked(random: &mut Random, dictionary: &[u8], places: &[(usize, usize)]) -> Vec<u8> {
+    if places.is_empty() || random.once_in(5) {
+        return make::text(random);
+    }
+    let (from, length) = random.pick(places);
+    let mut name = dictionary[from..from + length].to_vec();
+    match random.below(5) {
+        0 => name.truncate(length.saturating_sub(1)),
+        1 => name.push(b'x'),
+        2 if length > 0 => name[random.below(length)] ^= 1,
+        _ => {}
+    }
+    name
+}
+
 fn payload(random: &mut Random, names: usize) -> Vec<u8> {
     match random.below(8) {
         0 => make::long_varint(random),

@@ -125,6 +125,27 @@ fn the_small_file() {
 }
 
 #[test]
+fn the_small_file_in_parts() {
+    let found = |place, count| Answer { number: 0, place, count };
+    let file = small_file();
+    let (mut rows, mut frame) = ([0; 28], [0; 40]);
+    assert_eq!(open(&file, &mut rows, &mut frame).number, 0);
+    assert_eq!(stored(&file, &rows, 0), found(100, 3));
+    assert_eq!(stored(&file, &rows, 1), Answer { number: 14, place: 1, count: 0 });
+    assert_eq!(dictionary(&file, &frame), found(107, 1));
+    assert_eq!(number(DICTIONARY, b"wet"), found(1, 1));
+    assert_eq!(number(DICTIONARY, b"we"), found(0, 0));
+    assert_eq!(check_block(&file, 64, &PLAIN, 2), found(0, 2));
+    assert_eq!(check_block(&file[..99], 64, &PLAIN, 2), Answer { number: 6, place: 64, count: 0 });
+    let plain = [&b"PLB\x01\0\x1A\0\0\0"[..], &PLAIN, b"\x13\0\0\0", DICTIONARY].concat();
+    assert_eq!(book(&plain, 1), found(39, 19));
+    assert_eq!(book(&plain, 0), Answer { number: 6, place: 35, count: 0 });
+    assert_eq!(book_parts(&plain), found(35, 2));
+    assert_eq!(book_part(&plain, FIRST as u64), found(9, 26));
+    assert_eq!(book_part(&plain, 35), found(39, 19));
+}
+
+#[test]
 fn the_small_file_lists_as_three_lines() {
     let mut book = b"PLB\x01\0\x1A\0\0\0".to_vec();
     book.extend(PLAIN);
