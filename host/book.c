@@ -29,8 +29,8 @@ size_t book_offset(const input *book, uint32_t number)
     return (size_t)at;
 }
 
-/* Finds the first block whose plain entries are refused, of a log and a book that have passed all rules before 11; count
- * = its number. Refused by the call that refuses, which none does unless a file is changed meanwhile. */
+/* Finds the first block whose plain entries are refused, of a log and a book that have passed all rules before 11;
+ * count = its number. Refused by the call that refuses, which none does unless a file is changed meanwhile. */
 static hplog_answer find_block(const input *log, uint8_t *rows, size_t length, const input *book)
 {
     uint8_t frame[HPLOG_FRAME];

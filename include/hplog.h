@@ -89,8 +89,8 @@ hplog_answer hplog_label(const uint8_t *name, size_t name_len, uint8_t *panel, s
  * the file has no bytes there. Refusal: (14, i) where there is no row i. */
 hplog_answer hplog_stored(const uint8_t *log, size_t log_len, const uint8_t *rows, size_t rows_len, uint64_t i);
 
-/* Finds the stored bytes of the dictionary by the frame that hplog_open wrote; place and count as above. A frame that is
- * cut reads as zeros past its end. No refusals. */
+/* Finds the stored bytes of the dictionary by the frame that hplog_open wrote; place and count as above. A frame that
+ * is cut reads as zeros past its end. No refusals. */
 hplog_answer hplog_dictionary(const uint8_t *log, size_t log_len, const uint8_t *frame, size_t frame_len);
 
 /* ---- plain dictionaries ---- */
@@ -137,9 +137,9 @@ hplog_field_step hplog_field(const uint8_t *payload, size_t payload_len, uint32_
 
 /* Checks the plain bytes of the block whose header stands at an offset of the log; count = entries. names: as in
  * hplog_field.
- * Refusals in order: (6, at) where the log ends within the header or before it; 11 (place: in plain, as in the steps; a
- * delta that is not 0 in the first entry, falls or takes the time past 64 bits where it stands; plain_len where the last
- * time, the number of entries or the plain size is not the header's; 0 where there are no entries). */
+ * Refusals in order: (6, at) where the log ends within the header or before it; 11, place in plain: as in the steps;
+ * that of a delta which is not 0 in the first entry, falls, or takes the time past 64 bits; plain_len where the last
+ * time, the number of entries or the plain size is not the header's; 0 where there are no entries. */
 hplog_answer hplog_check_block(const uint8_t *log, size_t log_len, uint64_t at, const uint8_t *plain, size_t plain_len,
                                uint32_t names);
 
@@ -153,9 +153,9 @@ hplog_answer hplog_check_block(const uint8_t *log, size_t log_len, uint64_t at, 
  * count = how many there are. Refusals: the book's; last (6, offset) of the first byte that is left over. */
 hplog_answer hplog_book(const uint8_t *book, size_t book_len, uint32_t blocks);
 
-/* Checks a book whose log is not at hand: its parts go on to its end, and there is one at least. count = parts, of which
- * the last is the dictionary; place = where that stands. Refusals: the book's. hplog_book accepts a book with count - 1
- * blocks, and with no other number. */
+/* Checks a book whose log is not at hand: its parts go on to its end, and there is one at least. count = parts, the last
+ * of which is the dictionary; place = where that one stands. Refusals: the book's. hplog_book accepts such a book with
+ * count - 1 blocks, and with no other number. */
 hplog_answer hplog_book_parts(const uint8_t *book, size_t book_len);
 
 /* Finds the plain bytes of the part that stands at an offset, the first at HPLOG_BOOK_FIRST; place and count as in

@@ -135,6 +135,8 @@ def names(suite):
     lines = ["name 0 ", "name 1 a\\x20b\\x3D\\x22\\x5C", "name 2 h\\xC3\\xB6he\\x1B\\x07", "name 3 \\xC2\\x9B", ""]
     suite.expect(["names", "--plain", odd], out="\n".join([f"book 4 {odd}", *lines]).encode())
     suite.expect(["names", odd], out=f"{odd}: 4 names\n    0  \n    1  a b=\"\\x5C\n    2  h\u00f6he\\x1B\\x07\n    3  \\xC2\\x9B\n".encode())
+    alone = suite.path("alone.plb", maker.book([], maker.names(["site"])))
+    suite.expect(["names", "--plain", alone], out=f"book 1 {alone}\nname 0 site\n".encode())
     missing = suite.path("missing.plb")
     line = f"hplog: {missing}: No such file or directory\n".encode()
     suite.expect(["names", "--plain", missing, book], 2, out=plain.encode(), err=line)

@@ -8,10 +8,13 @@ use Rattle.entries.specs.Block.{blockVerdict}
 use Rattle.answer.specs.declared.Answer.{Answer}
 use Rattle.answer.specs.Answer.{answered}
 
--- "36 bytes [..] (6)" of the block's header at a place, as in opening, then 11 of the plain bytes, held against that header
+-- "36 bytes [..] (6)" of the block's header at a place, as in opening, then 11 of the plain bytes, held against that
+-- header
 unfoldable pub hostBlockRules : (log : List ℕ) (at : ℕ) (plain : List ℕ) (names : ℕ) → List Rule
-hostBlockRules log at plain names = atMost 6 at (at + 36) (length log) ∷ ruled (blockVerdict plain (headAt log at) names)
+hostBlockRules log at plain names =
+    atMost 6 at (at + 36) (length log) ∷ ruled (blockVerdict plain (headAt log at) names)
 
 -- count: its entries
 unfoldable pub hostBlockOf : (log : List ℕ) (at : ℕ) (plain : List ℕ) (names : ℕ) → Answer
-hostBlockOf log at plain names = answered (settle (firstBroken (hostBlockRules log at plain names)) (headAt log at .entries))
+hostBlockOf log at plain names =
+    answered (settle (firstBroken (hostBlockRules log at plain names)) (headAt log at .entries))

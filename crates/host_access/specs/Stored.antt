@@ -18,6 +18,7 @@ spanAnswer (refused n p) = record { number = n; place = p; count = 0 }
 unfoldable pub hostStoredOf : (log rows : List ℕ) (i : ℕ) → Answer
 hostStoredOf log rows i = spanAnswer (onGiven (rowIn rows (length rows / stride) i) (λ row. given (storedSpan log row)))
 
--- those of the dictionary, by a frame: "five u64: place of the dictionary's length field, the dictionary's stored size, [..]"
+-- those of the dictionary, by a frame: "five u64: place of the dictionary's length field, the dictionary's stored size,
+-- [..]" (include/hplog.h)
 unfoldable pub hostDictionaryOf : (log frame : List ℕ) → Answer
 hostDictionaryOf log frame = spanAnswer (given (dictionarySpan log (leAt 8 frame 0) (leAt 8 frame 8)))

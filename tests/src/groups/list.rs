@@ -60,13 +60,13 @@ pub fn block(check: &mut Check, random: &mut Random) {
         log.truncate(random.below(log.len() + 1));
     }
     let mut at = 64;
-    for (i, block) in made.blocks.iter().enumerate().take(6) {
+    for block in made.blocks.iter().take(6) {
         let place = match random.below(10) {
             0 => random.edge(),
             1 => (log.len() as u64).saturating_sub(random.below(40) as u64),
             _ => at as u64,
         };
-        let plain = if random.once_in(8) { &made.blocks[random.below(i + 1)].plain } else { &block.plain };
+        let plain = if random.once_in(8) { &made.blocks[random.below(made.blocks.len())].plain } else { &block.plain };
         let names = if random.once_in(8) { random.below(4) as u32 } else { made.names.len() as u32 };
         check.call(
             &format!("check_block at {place} with {names} names"),
