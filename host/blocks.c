@@ -52,20 +52,20 @@ uint8_t *blocks_choose(const input *log, const uint8_t *rows, size_t count, uint
     return numbers;
 }
 
-/* The block in place i of those to print. A row's block has a whole header in the file. */
+/* The block in place i of those to print. It is not refused: a row that the library wrote has a whole header in the
+ * file. */
 static block block_at(const input *log, const uint8_t *rows, const uint8_t *numbers, size_t i)
 {
     uint64_t number = numbers == NULL ? i : bytes_u32(numbers + 4 * i);
-    const uint8_t *row = rows + number * HPLOG_ROW;
-    const uint8_t *header = log->bytes + bytes_u64(row + ROW_OFFSET);
+    hplog_block_answer b = hplog_block(log->bytes, log->length, rows, (number + 1) * HPLOG_ROW, number);
     return (block){{
         [NUMBER] = number,
-        [OFFSET] = bytes_u64(row + ROW_OFFSET),
-        [STORED] = bytes_u32(row + ROW_STORED),
-        [PLAIN] = bytes_u32(header + BLOCK_PLAIN),
-        [ENTRIES] = bytes_u32(header + BLOCK_ENTRIES),
-        [START] = bytes_u64(row + ROW_START),
-        [END] = bytes_u64(row + ROW_END),
+        [OFFSET] = b.offset,
+        [STORED] = b.stored,
+        [PLAIN] = b.plain,
+        [ENTRIES] = b.entries,
+        [START] = b.start,
+        [END] = b.end,
     }};
 }
 

@@ -82,11 +82,20 @@ hplog_answer hplog_repair(const uint8_t *log, size_t log_len, const uint8_t *dic
  * Refusals in order: 15; 12. */
 hplog_answer hplog_label(const uint8_t *name, size_t name_len, uint8_t *panel, size_t panel_len);
 
-/* ---- stored bytes ---- */
+/* ---- blocks and stored bytes ---- */
+
+/* offset: where the block's header stands in the file; stored and plain: bytes */
+typedef struct {
+    uint64_t number, place, offset, start, end, entries, stored, plain;
+} hplog_block_answer;
+
+/* Reads the header of block i of a file by its rows, which are those that hplog_open or hplog_recover wrote,
+ * rows_len / 28 of them. On a refusal all but number and place is 0.
+ * Refusals in order: (14, i) where there is no row i; (6, its offset) where the file ends within the header. */
+hplog_block_answer hplog_block(const uint8_t *log, size_t log_len, const uint8_t *rows, size_t rows_len, uint64_t i);
 
 /* Finds the stored bytes of block i of a file by its rows; place = the offset of the first, count = how many they are.
- * The rows are those that hplog_open or hplog_recover wrote, rows_len / 28 of them. A row that points past the end of
- * the file has no bytes there. Refusal: (14, i) where there is no row i. */
+ * A row that points past the end of the file has no bytes there. Refusal: (14, i) where there is no row i. */
 hplog_answer hplog_stored(const uint8_t *log, size_t log_len, const uint8_t *rows, size_t rows_len, uint64_t i);
 
 /* Finds the stored bytes of the dictionary by the frame that hplog_open wrote; place and count as above. A frame that

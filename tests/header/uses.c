@@ -10,6 +10,7 @@ SIZE(hplog_answer, 24);
 SIZE(hplog_cursor, 8);
 SIZE(hplog_step, 32);
 SIZE(hplog_field_step, 64);
+SIZE(hplog_block_answer, 64);
 SIZE(hplog_listing, 72);
 SIZE(hplog_listed, 96);
 SIZE(hplog_writer, 64);
@@ -32,6 +33,7 @@ static const struct {
     hplog_answer (*recover)(const uint8_t *, size_t, uint8_t *, size_t, uint8_t *, size_t);
     hplog_answer (*repair)(const uint8_t *, size_t, const uint8_t *, size_t, uint8_t *, size_t);
     hplog_answer (*label)(const uint8_t *, size_t, uint8_t *, size_t);
+    hplog_block_answer (*block)(const uint8_t *, size_t, const uint8_t *, size_t, uint64_t);
     hplog_answer (*stored)(const uint8_t *, size_t, const uint8_t *, size_t, uint64_t);
     hplog_answer (*dictionary)(const uint8_t *, size_t, const uint8_t *, size_t);
     hplog_answer (*names)(const uint8_t *, size_t);
@@ -52,7 +54,7 @@ static const struct {
     hplog_written (*add_entry)(hplog_writer, uint8_t *, size_t, uint64_t, const uint8_t *, size_t, const uint8_t *, size_t);
     hplog_written (*add_block)(hplog_writer, uint8_t *, size_t, uint8_t *, size_t, uint64_t, const uint8_t *, size_t, const uint8_t *, size_t, uint32_t);
     hplog_written (*close)(hplog_writer, const uint8_t *, size_t, uint8_t *, size_t, const uint8_t *, size_t, const uint8_t *, size_t);
-} calls = {hplog_open, hplog_query, hplog_recover, hplog_repair, hplog_label, hplog_stored, hplog_dictionary,
+} calls = {hplog_open, hplog_query, hplog_recover, hplog_repair, hplog_label, hplog_block, hplog_stored, hplog_dictionary,
            hplog_names, hplog_name, hplog_number, hplog_delta, hplog_count, hplog_field, hplog_check_block,
            hplog_book, hplog_book_parts, hplog_book_part, hplog_list, hplog_list_next, hplog_writer_new, hplog_begin,
            hplog_add_name, hplog_add_entry, hplog_add_block, hplog_close};
@@ -130,6 +132,7 @@ static void small_file(void) {
     hplog_cursor cursor = {0};
     hplog_step step;
     hplog_field_step field;
+    hplog_block_answer block;
 
     check(accepted(written.answer, HPLOG_HEADER), "begin");
     written = calls.add_name(written.next, names, sizeof names, site, 4);
@@ -174,6 +177,11 @@ static void small_file(void) {
     check(accepted(calls.name(names, sizeof names, 1), 3) && calls.name(names, sizeof names, 1).place == 16, "name");
     check(found(calls.number(names, sizeof names, wet, 3), 1, 1), "number");
     check(found(calls.number(names, sizeof names, wet, 2), 0, 0), "number of a name that is not there");
+    block = calls.block(log, sizeof log, table, sizeof table, 0);
+    check(block.number == 0 && block.offset == HPLOG_HEADER && block.start == 1000 && block.end == 1005, "block");
+    check(block.entries == 2 && block.stored == sizeof stored && block.plain == sizeof plain, "the sizes of a block");
+    block = calls.block(log, 99, table, sizeof table, 0);
+    check(block.number == 6 && block.place == HPLOG_HEADER && block.plain == 0, "block whose header is cut");
     check(found(calls.stored(log, sizeof log, table, sizeof table, 0), 100, sizeof stored), "stored");
     check(refused(calls.stored(log, sizeof log, table, sizeof table, 1), 14, 1), "stored of a block that is not there");
     check(found(calls.dictionary(log, sizeof log, frame, sizeof frame), 107, sizeof stored_names), "dictionary");

@@ -7,6 +7,7 @@ static_assert(sizeof(hplog_answer) == 24 && std::is_trivial<hplog_answer>::value
 static_assert(sizeof(hplog_cursor) == 8 && std::is_trivial<hplog_cursor>::value, "hplog_cursor");
 static_assert(sizeof(hplog_step) == 32 && std::is_trivial<hplog_step>::value, "hplog_step");
 static_assert(sizeof(hplog_field_step) == 64 && std::is_trivial<hplog_field_step>::value, "hplog_field_step");
+static_assert(sizeof(hplog_block_answer) == 64 && std::is_trivial<hplog_block_answer>::value, "hplog_block_answer");
 static_assert(sizeof(hplog_listing) == 72 && std::is_trivial<hplog_listing>::value, "hplog_listing");
 static_assert(sizeof(hplog_listed) == 96 && std::is_trivial<hplog_listed>::value, "hplog_listed");
 static_assert(sizeof(hplog_writer) == 64 && std::is_trivial<hplog_writer>::value, "hplog_writer");
@@ -19,6 +20,7 @@ hplog_answer hplog_query(const uint8_t *, size_t, uint64_t, uint64_t, uint8_t *,
 hplog_answer hplog_recover(const uint8_t *, size_t, uint8_t *, size_t, uint8_t *, size_t);
 hplog_answer hplog_repair(const uint8_t *, size_t, const uint8_t *, size_t, uint8_t *, size_t);
 hplog_answer hplog_label(const uint8_t *, size_t, uint8_t *, size_t);
+hplog_block_answer hplog_block(const uint8_t *, size_t, const uint8_t *, size_t, uint64_t);
 hplog_answer hplog_stored(const uint8_t *, size_t, const uint8_t *, size_t, uint64_t);
 hplog_answer hplog_dictionary(const uint8_t *, size_t, const uint8_t *, size_t);
 hplog_answer hplog_names(const uint8_t *, size_t);

@@ -2,7 +2,7 @@
 
 use crate::guard::{Lent, Side};
 use hplog_tests::random::Random;
-use hplog_tests::records::{Answer, FieldStep, Step, Writer, Written};
+use hplog_tests::records::{Answer, BlockAnswer, FieldStep, Step, Writer, Written};
 use std::fmt::Debug;
 
 /// What a call answers.
@@ -11,6 +11,12 @@ pub trait Reply: Copy + Debug + PartialEq {
 }
 
 impl Reply for Answer {
+    fn number(&self) -> u64 {
+        self.number
+    }
+}
+
+impl Reply for BlockAnswer {
     fn number(&self) -> u64 {
         self.number
     }

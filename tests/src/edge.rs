@@ -1,6 +1,6 @@
 //! The calls of hplog.h, each behind a function that takes slices. A slice's pointer is never null.
 
-use hplog_tests::records::{Answer, Cursor, FieldStep, Step, Writer, Written};
+use hplog_tests::records::{Answer, BlockAnswer, Cursor, FieldStep, Step, Writer, Written};
 
 /// Where a listing stands; its fields have no meaning here.
 #[repr(C)]
@@ -22,7 +22,7 @@ pub struct Listed {
 pub const PIECE: usize = 50;
 
 mod foreign {
-    use super::{Answer, Cursor, FieldStep, Listed, Listing, Step, Writer, Written};
+    use super::{Answer, BlockAnswer, Cursor, FieldStep, Listed, Listing, Step, Writer, Written};
 
     #[link(name = "hplog", kind = "static")]
     extern "C" {
@@ -31,6 +31,7 @@ mod foreign {
         pub fn hplog_recover(log: *const u8, log_len: usize, rows: *mut u8, rows_len: usize, report: *mut u8, report_len: usize) -> Answer;
         pub fn hplog_repair(log: *const u8, log_len: usize, dictionary: *const u8, dictionary_len: usize, out: *mut u8, out_len: usize) -> Answer;
         pub fn hplog_label(name: *const u8, name_len: usize, panel: *mut u8, panel_len: usize) -> Answer;
+        pub fn hplog_block(log: *const u8, log_len: usize, rows: *const u8, rows_len: usize, i: u64) -> BlockAnswer;
         pub fn hplog_stored(log: *const u8, log_len: usize, rows: *const u8, rows_len: usize, i: u64) -> Answer;
         pub fn hplog_dictionary(log: *const u8, log_len: usize, frame: *const u8, frame_len: usize) -> Answer;
         pub fn hplog_names(dictionary: *const u8, dictionary_len: usize) -> Answer;
@@ -106,6 +107,10 @@ pub fn repair(log: &[u8], dictionary: &[u8], out: &mut [u8]) -> Answer {
 
 pub fn label(name: &[u8], panel: &mut [u8]) -> Answer {
     unsafe { foreign::hplog_label(name.as_ptr(), name.len(), panel.as_mut_ptr(), panel.len()) }
+}
+
+pub fn block(log: &[u8], rows: &[u8], i: u64) -> BlockAnswer {
+    unsafe { foreign::hplog_block(log.as_ptr(), log.len(), rows.as_ptr(), rows.len(), i) }
 }
 
 pub fn stored(log: &[u8], rows: &[u8], i: u64) -> Answer {

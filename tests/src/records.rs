@@ -10,6 +10,19 @@ pub struct Answer {
 
 #[repr(C)]
 #[derive(Clone, Copy, Debug, Default, PartialEq, Eq)]
+pub struct BlockAnswer {
+    pub number: u64,
+    pub place: u64,
+    pub offset: u64,
+    pub start: u64,
+    pub end: u64,
+    pub entries: u64,
+    pub stored: u64,
+    pub plain: u64,
+}
+
+#[repr(C)]
+#[derive(Clone, Copy, Debug, Default, PartialEq, Eq)]
 pub struct Cursor {
     pub at: u64,
 }

@@ -53,6 +53,8 @@ use Rattle.host_query.specs.Query.{hostRows, hostQueryRules, hostQueryOf}
 use Rattle.host_query.specs.Label.{hostLabelOf}
 use Rattle.access.specs.declared.Span as access-span
 use Rattle.host_access.specs.Stored as stored
+use Rattle.host_access.specs.Header.{headerAnswer, headerIn, hostHeaderOf}
+use Rattle.host_access.specs.Header as block
 use Rattle.host_access.specs.Block.{hostBlockRules, hostBlockOf}
 use Rattle.book.specs.declared.Span as book-span
 use Rattle.book.specs.declared.Tally.{Tally}
@@ -170,6 +172,16 @@ row-listed : (table : List ℕ) (n i : ℕ) → Listed (verdictIn (access.rowIn 
 unfolding access.rowIn allListed numberOf
 row-listed table n i = settled (flag 14 i (ltb i n) ∷ flag 14 i (ltb i (length table / stride)) ∷ []) _ refl
 
+-- a row, and the header that it points at
+header-listed : (log rows : List ℕ) (i : ℕ) → Listed (verdictIn (headerIn log rows i))
+unfolding headerIn allListed numberOf
+header-listed log rows i = go (access.rowIn rows (length rows / stride) i) (row-listed rows (length rows / stride) i)
+  where
+    go : (o : Outcome IndexRow) → Listed (verdictIn o)
+        → Listed (verdictIn (onGiven o (λ row. settle (firstBroken (block.headerRules log (row .offset))) (row .offset))))
+    go (given row) h = settled (block.headerRules log (row .offset)) _ refl
+    go (refused n p) h = h
+
 slice-row-listed : (rows : List IndexRow) (i : ℕ) → Listed (verdictIn (slices.rowIn rows i))
 unfolding slices.rowIn allListed numberOf
 slice-row-listed rows i = settled (flag 14 i (ltb i (length rows)) ∷ []) _ refl
@@ -266,6 +278,10 @@ given-returns (refused n p) f h = (refl, h)
 span-returns : (o : Outcome Span) → Listed (verdictIn o) → Returns (verdictIn o) (spanAnswer o .number)
 span-returns (given a) h = refl
 span-returns (refused n p) h = (refl, h)
+
+header-returns : (log : List ℕ) (o : Outcome ℕ) → Listed (verdictIn o) → Returns (verdictIn o) (headerAnswer log o .number)
+header-returns log (given at) h = refl
+header-returns log (refused n p) h = (refl, h)
 
 stored-returns : (o : Outcome IndexRow) (f : IndexRow → access-span.Span) → Listed (verdictIn o)
     → Returns (verdictIn o) (stored.spanAnswer (onGiven o (λ row. given (f row))) .number)
@@ -384,7 +400,7 @@ next-accepted log book from out r exit h = let q = h .says in cc
 
 pub table-numbers : TableNumbers
 unfolding hostOpenOf hostRecoverOf hostRepairOf hostQueryOf hostLabelOf hostNamesOf hostNameOf hostNumberOf hostListOf
-    stored.hostStoredOf stored.hostDictionaryOf hostBlockOf books.hostBookOf books.hostPartsOf books.hostPartOf
+    stored.hostStoredOf stored.hostDictionaryOf hostHeaderOf hostBlockOf books.hostBookOf books.hostPartsOf books.hostPartOf
 table-numbers =
     record {
       header = λ f. first-listed (headerRules f) (header-numbered f);
@@ -429,6 +445,7 @@ table-numbers =
       hplog-stop = λ log. stop-returns (recovery.reportOf log .stop) (stop-listed log);
       hplog-repair = λ log d room. given-returns (repair.repairOf log d room) _ (repair-listed log d room);
       hplog-query = λ rows t1 t2 room. rules-return (hostQueryRules rows t1 t2 room) _ (host-query-numbered rows t1 t2 room);
+      hplog-block = λ log rows i. header-returns log (headerIn log rows i) (header-listed log rows i);
       hplog-stored = λ log rows i. stored-returns (access.rowIn rows (length rows / stride) i) _ (row-listed rows (length rows / stride) i);
       hplog-dictionary = λ log frame. refl;
       hplog-label = λ n room. settled-returns (labelOf n room) 0 (label-listed n room);

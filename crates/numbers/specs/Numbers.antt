@@ -53,6 +53,7 @@ use Rattle.host_recovery.specs.Repair.{hostRepairOf}
 use Rattle.host_query.specs.Query.{hostQueryRules, hostQueryOf}
 use Rattle.host_query.specs.Label.{hostLabelOf}
 use Rattle.host_access.specs.Stored.{hostStoredOf, hostDictionaryOf}
+use Rattle.host_access.specs.Header.{headerIn, hostHeaderOf}
 use Rattle.host_access.specs.Block.{hostBlockRules, hostBlockOf}
 use Rattle.host_book.specs.Books.{hostBookOf, hostPartsOf, hostPartOf}
 use Rattle.host_lister.specs.declared.Listing.{Listing}
@@ -151,7 +152,9 @@ pub record TableNumbers : Type 0 where
       → Returns (verdictIn (repairOf log d room)) (hostRepairOf log d room .number)
   pub hplog-query : (rows : List ℕ) (t1 t2 numbers : ℕ)
       → Returns (firstBroken (hostQueryRules rows t1 t2 numbers)) (hostQueryOf rows t1 t2 numbers .number)
-  -- the C edge, stored bytes, of which the dictionary's are never refused
+  -- the C edge, a block's header, and stored bytes, of which the dictionary's are never refused
+  pub hplog-block : (log rows : List ℕ) (i : ℕ)
+      → Returns (verdictIn (headerIn log rows i)) (hostHeaderOf log rows i .number)
   pub hplog-stored : (log rows : List ℕ) (i : ℕ)
       → Returns (verdictIn (access.rowIn rows (length rows / stride) i)) (hostStoredOf log rows i .number)
   pub hplog-dictionary : (log frame : List ℕ) → hostDictionaryOf log frame .number ≡ 0

@@ -209,6 +209,13 @@ pub fn stored(check: &mut Check, random: &mut Random) {
             |[log, rows], []| reference::stored(log, rows, i),
             |[log, rows], []| edge::stored(log, rows, i),
         );
+        check.call(
+            &format!("block {i}"),
+            [&log, &rows],
+            &mut [],
+            |[log, rows], []| reference::block_header(log, rows, i),
+            |[log, rows], []| edge::block(log, rows, i),
+        );
     }
     check.call(
         "dictionary",
