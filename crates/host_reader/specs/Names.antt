@@ -4,7 +4,7 @@ use Prim.Native.Nat.{ℕ}
 use Rattle.verdict.specs.Rules.{Outcome, given, refused}
 use Rattle.names.specs.Dictionary.{dictionaryOf}
 use Rattle.lookup.specs.declared.Span.{Span}
-use Rattle.lookup.specs.Lookup.{Found, numbered, missing, lookupOf, seekOf}
+use Rattle.lookup.specs.Lookup.{Found, numbered, missing, spanAt, lookupOf, seekOf}
 use Rattle.answer.specs.declared.Answer.{Answer}
 use Rattle.answer.specs.Answer.{answered}
 
@@ -19,6 +19,10 @@ spanAnswer (refused n p) = record { number = n; place = p; count = 0 }
 
 unfoldable pub hostNameOf : List ℕ → (i : ℕ) → Answer
 hostNameOf s i = spanAnswer (lookupOf s i)
+
+-- the name whose id stands at a place, which is never refused
+unfoldable pub hostNameAtOf : List ℕ → (at : ℕ) → Answer
+hostNameAtOf s at = spanAnswer (given (spanAt s at))
 
 -- a name's number: "place = 1 and count = the number", both 0 where no name is the one given
 abbrev pub numberAnswer : Outcome Found → Answer

@@ -1,8 +1,9 @@
 // The calls on plain dictionaries and plain blocks for programs in C (include/hplog.h).
 ghost use mathlib.Core.Path.{_≡_};
+ghost use Rattle.verdict.specs.Rules.{given};
 ghost use Rattle.cursor.specs.Answers.{deltaAt, countAt, fieldAt};
 ghost use Rattle.cursor.specs.declared.FieldStep.the-variants as field;
-ghost use Rattle.host_reader.specs.Names.{hostNamesOf, hostNameOf, hostNumberOf};
+ghost use Rattle.host_reader.specs.Names.{spanAnswer, hostNamesOf, hostNameOf, hostNameAtOf, hostNumberOf};
 ghost use Rattle.host_reader.specs.Steps.{stepped, stopped, deltaAnswer, countAnswer, readField, fieldAnswer};
 use answer::Answer;
 use cursor::CountStep;
@@ -13,6 +14,7 @@ use cursor::FieldStep;
 use cursor::Value;
 use lookup::Located;
 use lookup::Sought;
+use lookup::Span;
 use names::Counted;
 use verdict::Refusal;
 
@@ -49,19 +51,32 @@ pub extern "C" fn hplog_names(dictionary: &[u8]) -> Answer
     }
 }
 
+fn found(p: Span) -> Answer
+    ensures { λ r. ⌜ r ≡ spanAnswer (given p) ⌝ }
+{
+    Answer {
+        number: 0,
+        place: p.place as u64,
+        count: p.length as u64,
+    }
+}
+
 #[no_mangle]
 pub extern "C" fn hplog_name(dictionary: &[u8], i: u64) -> Answer
     ensures { λ r. ⌜ r ≡ hostNameOf (now (dictionary .entry)) i ⌝ }
 {
     let l = lookup::locate(dictionary, i);
     match l {
-        Located::At(p) => Answer {
-            number: 0,
-            place: p.place as u64,
-            count: p.length as u64,
-        },
+        Located::At(p) => found(p),
         Located::Refused(w) => answer::refused(w),
     }
+}
+
+#[no_mangle]
+pub extern "C" fn hplog_name_at(dictionary: &[u8], at: u64) -> Answer
+    ensures { λ r. ⌜ r ≡ hostNameAtOf (now (dictionary .entry)) at ⌝ }
+{
+    found(lookup::name_at(dictionary, at as usize))
 }
 
 #[no_mangle]

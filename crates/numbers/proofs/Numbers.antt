@@ -65,7 +65,7 @@ use Rattle.host_lister.specs.Answers.{hostListOf, Went}
 use Rattle.host_writer.specs.declared.State.{State}
 use Rattle.host_writer.specs.State.{writerIn}
 use Rattle.host_writer.specs.Answers as edge
-use Rattle.host_reader.specs.Names.{spanAnswer, numberAnswer, hostNamesOf, hostNameOf, hostNumberOf}
+use Rattle.host_reader.specs.Names.{spanAnswer, numberAnswer, hostNamesOf, hostNameOf, hostNameAtOf, hostNumberOf}
 use Rattle.host_reader.specs.Steps.{deltaAnswer, countAnswer, fieldAnswer}
 use Rattle.numbers.specs.Numbers.{Listed, Returns, deltaVerdict, countVerdict, fieldVerdict, TableNumbers}
 use Rattle.numbers.proofs.Payloads.{allListed, cond-listed, first-listed, both, ruled-numbered, settled}
@@ -399,7 +399,7 @@ next-accepted : (log book : List ℕ) (from : Listing) (out : List ℕ) (r : lis
 next-accepted log book from out r exit h = let q = h .says in cc
 
 pub table-numbers : TableNumbers
-unfolding hostOpenOf hostRecoverOf hostRepairOf hostQueryOf hostLabelOf hostNamesOf hostNameOf hostNumberOf hostListOf
+unfolding hostOpenOf hostRecoverOf hostRepairOf hostQueryOf hostLabelOf hostNamesOf hostNameOf hostNameAtOf hostNumberOf hostListOf
     stored.hostStoredOf stored.hostDictionaryOf hostHeaderOf hostBlockOf books.hostBookOf books.hostPartsOf books.hostPartOf
 table-numbers =
     record {
@@ -451,6 +451,7 @@ table-numbers =
       hplog-label = λ n room. settled-returns (labelOf n room) 0 (label-listed n room);
       hplog-names = λ s. answered-returns (names.dictionaryOf s) (dictionary-listed s);
       hplog-name = λ s i. span-returns (lookupOf s i) (lookup-listed s i);
+      hplog-name-at = λ s at. refl;
       hplog-number = λ s n. number-returns (seekOf s n) (seek-listed s n);
       hplog-delta = λ s at. delta-returns (deltaAt s at) (delta-at s at);
       hplog-count = λ s at. count-returns (countAt s at) (count-at s at);

@@ -62,7 +62,7 @@ use Rattle.host_lister.specs.Answers.{hostListOf, Went}
 use Rattle.host_writer.specs.declared.State.{State}
 use Rattle.host_writer.specs.State.{writerIn}
 use Rattle.host_writer.specs.Answers.{storing, naming, entering}
-use Rattle.host_reader.specs.Names.{hostNamesOf, hostNameOf, hostNumberOf}
+use Rattle.host_reader.specs.Names.{hostNamesOf, hostNameOf, hostNameAtOf, hostNumberOf}
 use Rattle.host_reader.specs.Steps.{deltaAnswer, countAnswer, fieldAnswer}
 
 -- the numbers of the table: from 1, "file below 64 bytes", to 17, "writer call out of turn"
@@ -158,10 +158,12 @@ pub record TableNumbers : Type 0 where
   pub hplog-stored : (log rows : List ℕ) (i : ℕ)
       → Returns (verdictIn (access.rowIn rows (length rows / stride) i)) (hostStoredOf log rows i .number)
   pub hplog-dictionary : (log frame : List ℕ) → hostDictionaryOf log frame .number ≡ 0
-  -- the C edge, plain bytes: the label, the dictionary, a name in it and a name's number, the reading steps, a block
+  -- the C edge, plain bytes: the label, the dictionary, a name in it, the one at a place, which is never refused, and a
+  -- name's number, the reading steps, a block
   pub hplog-label : (name : List ℕ) (room : ℕ) → Returns (labelOf name room) (hostLabelOf name room .number)
   pub hplog-names : (s : List ℕ) → Returns (verdictIn (dictionaryOf s)) (hostNamesOf s .number)
   pub hplog-name : (s : List ℕ) (i : ℕ) → Returns (verdictIn (lookupOf s i)) (hostNameOf s i .number)
+  pub hplog-name-at : (s : List ℕ) (at : ℕ) → hostNameAtOf s at .number ≡ 0
   pub hplog-number : (s n : List ℕ) → Returns (verdictIn (seekOf s n)) (hostNumberOf s n .number)
   pub hplog-delta : (s : List ℕ) (at : ℕ) → Returns (deltaVerdict (deltaAt s at)) (deltaAnswer (deltaAt s at) .number)
   pub hplog-count : (s : List ℕ) (at : ℕ) → Returns (countVerdict (countAt s at)) (countAnswer (countAt s at) .number)

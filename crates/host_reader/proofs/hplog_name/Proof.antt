@@ -7,7 +7,7 @@ use Rattle.host_reader.proofs.hplog_name.Tie as tie
 
 returns : tie.Need-returns
 unfolding hostNameOf
-returns c = let k = c .before in ap spanAnswer (rw (k .l .given .1) at (k .before .before .locate .ensures))
+returns c = let k = c .before .before in c .found .ensures ∙ ap spanAnswer (rw (k .l .given .1) at (k .before .before .locate .ensures))
 
 returns-2 : tie.Need-returns-2
 unfolding hostNameOf
@@ -16,4 +16,4 @@ returns-2 c = let k = c .before .before in c .refused .ensures ∙ ap spanAnswer
 pub hplog-name-spec : {M : Type 1} → statement M
 hplog-name-spec =
     tie.close
-    (tie.spec (λ c κs. search needs) (λ c. search needs) (λ c. search needs) (λ c κs. search needs) returns returns-2)
+    (tie.spec (λ c κs. search needs) (λ c. search needs) (λ c κs. search needs) (λ c. search needs) (λ c κs. search needs) returns returns-2)
