@@ -2,7 +2,6 @@
 
 #include "bytes.h"
 #include "calendar.h"
-#include "format.h"
 #include "hplog.h"
 #include "message.h"
 #include "terminal.h"
@@ -29,12 +28,6 @@ uint8_t *blocks_rows(const input *log, size_t *length)
     if (rows == NULL)
         message_error(log->name);
     return rows;
-}
-
-const uint8_t *blocks_index(const input *log, size_t *count)
-{
-    *count = (size_t)bytes_u64(log->bytes + HEADER_COUNT);
-    return log->bytes + bytes_u64(log->bytes + log->length - FOOTER_SIZE + FOOTER_INDEX) + INDEX_ROWS;
 }
 
 uint8_t *blocks_choose(const input *log, const uint8_t *rows, size_t count, uint64_t t1, uint64_t t2, size_t *found)

@@ -12,9 +12,6 @@
  * On a null pointer a message has been printed. */
 uint8_t *blocks_rows(const input *log, size_t *length);
 
-/* The rows of a log that was accepted, in its own index; *count is how many. */
-const uint8_t *blocks_index(const input *log, size_t *count);
-
 /* Finds the blocks that meet a range of times, of which the first is not above the second, among the rows of an accepted log. Gives their numbers
  * back as hplog_query writes them, to be freed; *found is how many. On a null pointer a message has been printed. */
 uint8_t *blocks_choose(const input *log, const uint8_t *rows, size_t count, uint64_t t1, uint64_t t2, size_t *found);

@@ -19,16 +19,6 @@ hplog_answer book_dictionary(const input *book, book_part *dictionary)
     return parts;
 }
 
-size_t book_offset(const input *book, uint32_t number)
-{
-    uint64_t at = HPLOG_BOOK_FIRST;
-    for (uint32_t i = 0; i < number; i++) {
-        hplog_answer part = hplog_book_part(book->bytes, book->length, at);
-        at = part.place + part.count;
-    }
-    return (size_t)at;
-}
-
 /* Finds the first block whose plain entries are refused, of a log and a book that have passed all rules before 11;
  * count = its number. Refused by the call that refuses, which none does unless a file is changed meanwhile. */
 static hplog_answer find_block(const input *log, uint8_t *rows, size_t length, const input *book)

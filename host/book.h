@@ -17,9 +17,6 @@ typedef struct {
  * a refusal there is no dictionary. */
 hplog_answer book_dictionary(const input *book, book_part *dictionary);
 
-/* Where a part stands, of a book that has it. */
-size_t book_offset(const input *book, uint32_t number);
-
 /* Prints the refusal of wrong plain entries of a log and book that the library has refused with 11, and names the
  * block; gives the status back. */
 int book_refused_entries(const input *log, const input *book, uint64_t place);

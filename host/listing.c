@@ -1,14 +1,12 @@
 #include "listing.h"
 
-#include "blocks.h"
 #include "book.h"
-#include "bytes.h"
-#include "format.h"
 #include "progress.h"
 #include "status.h"
 #include "words.h"
 
-#include <stdlib.h>
+#include <stdbool.h>
+#include <stdio.h>
 
 #define PIECE ((size_t)1 << 16)
 
@@ -31,13 +29,9 @@ static int refused(const input *log, const input *book, uint64_t number, uint64_
     return words_refused_log(log, number, place);
 }
 
-int listing_open(listing *list, char *const *paths)
+/* Takes the library's answer on a log and a book that are open. */
+static int accept(listing *list, hplog_listed listed)
 {
-    if (!input_open_both(&list->log, &list->book, paths))
-        return STATUS_ERROR;
-    progress_begin("checking");
-    hplog_listed listed = hplog_list(list->log.bytes, list->log.length, list->book.bytes, list->book.length);
-    progress_end();
     list->next = listed.next;
     if (listed.answer.number == 0)
         return STATUS_ACCEPTED;
@@ -46,31 +40,34 @@ int listing_open(listing *list, char *const *paths)
     return status;
 }
 
-bool listing_narrow(listing *list, uint64_t t1, uint64_t t2)
+int listing_open(listing *list, char *const *paths)
 {
-    size_t count, found;
-    book_part dictionary;
-    const uint8_t *rows = blocks_index(&list->log, &count);
-    uint8_t *numbers = blocks_choose(&list->log, rows, count, t1, t2, &found);
-    if (numbers == NULL)
-        return false;
-    /* The rows' times do not fall, so that the blocks found stand side by side. */
-    uint32_t first = found > 0 ? bytes_u32(numbers) : 0;
-    free(numbers);
-    book_dictionary(&list->book, &dictionary);
-    list->next = (hplog_listing){
-        .kind = HPLOG_RUN,
-        .blocks = (uint32_t)found,
-        .at = found > 0 ? bytes_u64(rows + (size_t)first * HPLOG_ROW + ROW_OFFSET) : 0,
-        .plain = book_offset(&list->book, first),
-        .dictionary = (uint64_t)(dictionary.bytes - list->book.bytes),
-        .length = dictionary.length,
-        .names = bytes_u32(dictionary.bytes),
-    };
-    return true;
+    if (!input_open_both(&list->log, &list->book, paths))
+        return STATUS_ERROR;
+    progress_begin("checking");
+    hplog_listed listed = hplog_list(list->log.bytes, list->log.length, list->book.bytes, list->book.length);
+    progress_end();
+    return accept(list, listed);
 }
 
-void listing_print(listing *list, listing_sink *take, void *state)
+int listing_open_range(listing *list, char *const *paths, uint64_t t1, uint64_t t2)
+{
+    if (!input_open_both(&list->log, &list->book, paths))
+        return STATUS_ERROR;
+    progress_begin("checking");
+    hplog_listed listed =
+        hplog_list_range(list->log.bytes, list->log.length, list->book.bytes, list->book.length, t1, t2);
+    progress_end();
+    return accept(list, listed);
+}
+
+static bool print_piece(const uint8_t *piece, size_t length)
+{
+    progress_print();
+    return fwrite(piece, 1, length, stdout) == length;
+}
+
+void listing_print(listing *list)
 {
     static uint8_t piece[PIECE];
     uint64_t done = 0, count;
@@ -82,7 +79,7 @@ void listing_print(listing *list, listing_sink *take, void *state)
         count = listed.answer.count;
         done += count;
         progress_bytes(done);
-    } while (count > 0 && take(state, (const char *)piece, (size_t)count));
+    } while (count > 0 && print_piece(piece, (size_t)count));
     progress_end();
 }
 

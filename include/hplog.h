@@ -43,7 +43,6 @@ extern "C" {
 #define HPLOG_FIELD 24        /* bytes of a field to write, see hplog_add_entry */
 #define HPLOG_BLOCKS 4096     /* the most blocks that a file has */
 #define HPLOG_BOOK_FIRST 5    /* where the first part of a plain book stands, see hplog_book_part */
-#define HPLOG_RUN 1           /* the kind of a listing that a program makes of a run of blocks, see hplog_listing */
 #define HPLOG_PIECE 50        /* an output of so many bytes has room for some of any listing that is left */
 
 /* What most calls answer. number is 0 where the call was accepted; count is then what the call says, and place is 0 unless it says otherwise.
@@ -176,12 +175,9 @@ hplog_answer hplog_book_part(const uint8_t *book, size_t book_len, uint64_t at);
  * A log with its plain book (mark PLB, u16 version 1, then u32 length and plain bytes for each block, and last for the dictionary), as text:
  * a line of totals, then a line for each entry; or, where log or book is refused, the one line of that refusal. */
 
-/* Where a listing stands. Its fields are for hplog_list_next alone, but a program may make the listing of a run of blocks itself, of a log and a book
- * that hplog_list accepts. Then kind is HPLOG_RUN, blocks how many there are, at the offset of the first one's header in the log and plain that of
- * its length field in the book; dictionary and length are offset and size of the plain dictionary in the book, and names its count; from is the
- * number of entries that the line of totals gives; all else is 0. */
+/* Where a listing stands. Its fields are for hplog_list_next alone. */
 typedef struct {
-    uint64_t at, plain, dictionary, length, pos, from, left;
+    uint64_t at, plain, dictionary, length, pos, from, left, t1, t2;
     uint32_t blocks, names, entries;
     uint8_t fields, kind;
 } hplog_listing;
@@ -194,6 +190,12 @@ typedef struct {
 /* Checks a log and its book; count = entries. next is where the listing starts; where they are refused, it is the refusal's line.
  * Refusals in order: hplog_open's 1 to 9; the book's 2, 3 and 6, place in the book; 10 of the plain dictionary; 11 of the plain blocks. */
 hplog_listed hplog_list(const uint8_t *log, size_t log_len, const uint8_t *book, size_t book_len);
+
+/* The same for the entries whose times are from t1 to t2, both included, in the log's order and without the line of
+ * totals; count = entries of the whole log.
+ * Refusals in order: (13, t1) where t1 is above t2; those of hplog_list. */
+hplog_listed hplog_list_range(const uint8_t *log, size_t log_len, const uint8_t *book, size_t book_len, uint64_t t1,
+                              uint64_t t2);
 
 /* Writes as much of the listing as fits into out, in whole words; answer.count = bytes. It ends where count is 0 with an out_len of HPLOG_PIECE or
  * more. No refusals. */

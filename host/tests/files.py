@@ -110,6 +110,22 @@ def borders(suite):
     suite.expect(["read", none, suite.path("none.plb", maker.book([], NAMES))])
 
 
+def last_times(suite):
+    """Entries up to the last time that 64 bits hold, which is also where a range ends that names no end."""
+    last = 2**64 - 1
+    plain = b"".join(maker.entry(delta, []) for delta in (0, 4, 5, 5))
+    log = suite.path("last.hplog", maker.finished([(last - 5, last, 4, plain, b"z")], b"z")[0])
+    book = suite.path("last.plb", maker.book([plain], NAMES))
+    for options, times in (
+        ([], (last - 5, last - 1, last, last)),
+        (["--from", str(last)], (last, last)),
+        (["--from", str(last - 1), "--to", str(last)], (last - 1, last, last)),
+        (["--to", str(last - 1)], (last - 5, last - 1)),
+        (["--from", str(last - 4), "--to", str(last - 2)], ()),
+    ):
+        suite.expect(["read", log, book, *options], out="".join(f"{time}\n" for time in times).encode())
+
+
 def long_lines(suite):
     """Lines that are longer than any buffer, and times that pieces of the listing may divide."""
     text = "x\\\"\n" * 60_000
@@ -213,4 +229,4 @@ def closed_streams(suite):
     suite.holds("the file has no message in it", (suite.folder / "closed.out").read_bytes() == WHOLE)
 
 
-GROUPS = [samples, checks, queries, recoveries, listings, borders, long_lines, names, labels, inputs, closed_pipe, closed_streams]
+GROUPS = [samples, checks, queries, recoveries, listings, borders, last_times, long_lines, names, labels, inputs, closed_pipe, closed_streams]

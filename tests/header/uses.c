@@ -11,8 +11,8 @@ SIZE(hplog_cursor, 8);
 SIZE(hplog_step, 32);
 SIZE(hplog_field_step, 64);
 SIZE(hplog_block_answer, 64);
-SIZE(hplog_listing, 72);
-SIZE(hplog_listed, 96);
+SIZE(hplog_listing, 88);
+SIZE(hplog_listed, 112);
 SIZE(hplog_writer, 64);
 SIZE(hplog_written, 88);
 
@@ -47,6 +47,7 @@ static const struct {
     hplog_answer (*book_parts)(const uint8_t *, size_t);
     hplog_answer (*book_part)(const uint8_t *, size_t, uint64_t);
     hplog_listed (*list)(const uint8_t *, size_t, const uint8_t *, size_t);
+    hplog_listed (*list_range)(const uint8_t *, size_t, const uint8_t *, size_t, uint64_t, uint64_t);
     hplog_listed (*list_next)(const uint8_t *, size_t, const uint8_t *, size_t, hplog_listing, uint8_t *, size_t);
     hplog_writer (*writer_new)(void);
     hplog_written (*begin)(hplog_writer, uint8_t *, size_t);
@@ -56,8 +57,8 @@ static const struct {
     hplog_written (*close)(hplog_writer, const uint8_t *, size_t, uint8_t *, size_t, const uint8_t *, size_t, const uint8_t *, size_t);
 } calls = {hplog_open, hplog_query, hplog_recover, hplog_repair, hplog_label, hplog_block, hplog_stored, hplog_dictionary,
            hplog_names, hplog_name, hplog_number, hplog_delta, hplog_count, hplog_field, hplog_check_block,
-           hplog_book, hplog_book_parts, hplog_book_part, hplog_list, hplog_list_next, hplog_writer_new, hplog_begin,
-           hplog_add_name, hplog_add_entry, hplog_add_block, hplog_close};
+           hplog_book, hplog_book_parts, hplog_book_part, hplog_list, hplog_list_range, hplog_list_next,
+           hplog_writer_new, hplog_begin, hplog_add_name, hplog_add_entry, hplog_add_block, hplog_close};
 
 static int failed;
 
@@ -213,6 +214,12 @@ static void small_file(void) {
         listed += (size_t)piece.answer.count;
     } while (piece.answer.count != 0 && !failed);
     check(listed == sizeof text - 1, "list_next to the end");
+    piece = calls.list_range(log, sizeof log, book, sizeof book, 1001, 1005);
+    check(accepted(piece.answer, 2), "list_range");
+    piece = calls.list_next(log, sizeof log, book, sizeof book, piece.next, out, HPLOG_PIECE);
+    check(accepted(piece.answer, 23) && memcmp("1005 site=s:\"B7\" wet=n\n", out, 23) == 0, "list_next of a range");
+    piece = calls.list_range(log, sizeof log, book, sizeof book, 1001, 1000);
+    check(refused(piece.answer, 13, 1001), "list_range, reversed");
     check(HPLOG_BLOCKS == 4096, "the most blocks");
 }
 

@@ -8,8 +8,8 @@ static_assert(sizeof(hplog_cursor) == 8 && std::is_trivial<hplog_cursor>::value,
 static_assert(sizeof(hplog_step) == 32 && std::is_trivial<hplog_step>::value, "hplog_step");
 static_assert(sizeof(hplog_field_step) == 64 && std::is_trivial<hplog_field_step>::value, "hplog_field_step");
 static_assert(sizeof(hplog_block_answer) == 64 && std::is_trivial<hplog_block_answer>::value, "hplog_block_answer");
-static_assert(sizeof(hplog_listing) == 72 && std::is_trivial<hplog_listing>::value, "hplog_listing");
-static_assert(sizeof(hplog_listed) == 96 && std::is_trivial<hplog_listed>::value, "hplog_listed");
+static_assert(sizeof(hplog_listing) == 88 && std::is_trivial<hplog_listing>::value, "hplog_listing");
+static_assert(sizeof(hplog_listed) == 112 && std::is_trivial<hplog_listed>::value, "hplog_listed");
 static_assert(sizeof(hplog_writer) == 64 && std::is_trivial<hplog_writer>::value, "hplog_writer");
 static_assert(sizeof(hplog_written) == 88 && std::is_trivial<hplog_written>::value, "hplog_written");
 
@@ -34,6 +34,7 @@ hplog_answer hplog_book(const uint8_t *, size_t, uint32_t);
 hplog_answer hplog_book_parts(const uint8_t *, size_t);
 hplog_answer hplog_book_part(const uint8_t *, size_t, uint64_t);
 hplog_listed hplog_list(const uint8_t *, size_t, const uint8_t *, size_t);
+hplog_listed hplog_list_range(const uint8_t *, size_t, const uint8_t *, size_t, uint64_t, uint64_t);
 hplog_listed hplog_list_next(const uint8_t *, size_t, const uint8_t *, size_t, hplog_listing, uint8_t *, size_t);
 hplog_writer hplog_writer_new(void);
 hplog_written hplog_begin(hplog_writer, uint8_t *, size_t);

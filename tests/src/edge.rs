@@ -6,7 +6,7 @@ use hplog_tests::records::{Answer, BlockAnswer, Cursor, FieldStep, Step, Writer,
 #[repr(C)]
 #[derive(Clone, Copy, Debug, Default, PartialEq, Eq)]
 pub struct Listing {
-    pub places: [u64; 7],
+    pub places: [u64; 9],
     pub counts: [u32; 3],
     pub kinds: [u8; 2],
 }
@@ -45,6 +45,7 @@ mod foreign {
         pub fn hplog_book_parts(book: *const u8, book_len: usize) -> Answer;
         pub fn hplog_book_part(book: *const u8, book_len: usize, at: u64) -> Answer;
         pub fn hplog_list(log: *const u8, log_len: usize, book: *const u8, book_len: usize) -> Listed;
+        pub fn hplog_list_range(log: *const u8, log_len: usize, book: *const u8, book_len: usize, t1: u64, t2: u64) -> Listed;
         pub fn hplog_list_next(log: *const u8, log_len: usize, book: *const u8, book_len: usize, at: Listing, out: *mut u8, out_len: usize)
             -> Listed;
         pub fn hplog_writer_new() -> Writer;
@@ -163,6 +164,10 @@ pub fn book_part(book: &[u8], at: u64) -> Answer {
 
 pub fn list(log: &[u8], book: &[u8]) -> Listed {
     unsafe { foreign::hplog_list(log.as_ptr(), log.len(), book.as_ptr(), book.len()) }
+}
+
+pub fn list_range(log: &[u8], book: &[u8], t1: u64, t2: u64) -> Listed {
+    unsafe { foreign::hplog_list_range(log.as_ptr(), log.len(), book.as_ptr(), book.len(), t1, t2) }
 }
 
 pub fn list_next(log: &[u8], book: &[u8], at: Listing, out: &mut [u8]) -> Listed {

@@ -9,6 +9,7 @@ use Rattle.tokens.specs.Tokens.{joined}
 use Rattle.states.specs.Listing.{tokensFrom}
 use Rattle.lister.specs.Steps.{Rendered}
 use Rattle.input.specs.Printed.{printedOf}
+use Rattle.input.specs.Ranges.{rangeOf, rangeText}
 use Rattle.answer.specs.declared.Answer.{Answer}
 use Rattle.answer.specs.Answer.{answered}
 use Rattle.host_lister.specs.declared.Listing.{Listing}
@@ -27,6 +28,15 @@ hostListOf log book = answered (onGiven (contentsOf log book) (λ t. given (t .e
 pub record Started (log book : List ℕ) (r : Listed) : Type 0 where
   pub says : r .answer ≡ hostListOf log book
   pub text : joined (left log book (r .next)) ≡ printedOf log book (contentsOf log book)
+
+-- count: the entries of all times
+unfoldable pub hostRangeOf : (log book : List ℕ) (t1 t2 : ℕ) → Answer
+hostRangeOf log book t1 t2 = answered (onGiven (rangeOf log book t1 t2) (λ t. given (t .entries)))
+
+-- the start of a range: how the call answers, and what is left to write are the lines of the entries from T1 to T2
+pub record StartedRange (log book : List ℕ) (t1 t2 : ℕ) (r : Listed) : Type 0 where
+  pub says : r .answer ≡ hostRangeOf log book t1 t2
+  pub text : joined (left log book (r .next)) ≡ rangeText log book t1 t2
 
 -- a piece: never a refusal; as many whole tokens as fit are written, and the others are left
 pub record Went (log book : List ℕ) (from : Listing) (out : List ℕ) (r : Listed) (exit : List ℕ) : Type 0 where

@@ -14,6 +14,7 @@ placeIn l =
       dictionary = l .dictionary;
       length = l .length;
       names = l .names;
+      range = record { from = record { 0 = l .t1 }; to = record { 0 = l .t2 } };
       entries = l .entries;
       pos = l .pos;
       fields = l .fields;
@@ -46,6 +47,8 @@ listingAt kind p from left =
       pos = p .pos;
       from = from;
       left = left;
+      t1 = p .range .from .0;
+      t2 = p .range .to .0;
       blocks = p .blocks;
       names = p .names;
       entries = p .entries;
@@ -55,4 +58,19 @@ listingAt kind p from left =
 
 abbrev pub listingOff : (kind number place : ℕ) → Listing
 listingOff kind number place =
-    record { at = 0; plain = 0; dictionary = 0; length = 0; pos = 0; from = place; left = 0; blocks = 0; names = 0; entries = 0; fields = number; kind = kind }
+    record {
+      at = 0;
+      plain = 0;
+      dictionary = 0;
+      length = 0;
+      pos = 0;
+      from = place;
+      left = 0;
+      t1 = 0;
+      t2 = 0;
+      blocks = 0;
+      names = 0;
+      entries = 0;
+      fields = number;
+      kind = kind;
+    }

@@ -1,10 +1,12 @@
 // The listing for programs in C, piece by piece (include/hplog.h).
 ghost use mathlib.Core.Path.{_≡_};
 ghost use Rattle.host_lister.specs.Listing.{placeIn, stateIn, listingAt, listingOff};
-ghost use Rattle.host_lister.specs.Answers.{Started, Went};
+ghost use Rattle.host_lister.specs.Answers.{Started, StartedRange, Went};
 use answer::Answer;
 use contents::Contents;
+use parts::Epoch;
 use states::Place;
+use states::Range;
 use states::State;
 use verdict::Refusal;
 
@@ -18,6 +20,8 @@ pub struct Listing {
     pub pos: usize,
     pub from: usize,
     pub left: usize,
+    pub t1: u64,
+    pub t2: u64,
     pub blocks: u32,
     pub names: u32,
     pub entries: u32,
@@ -34,6 +38,10 @@ pub struct Listed {
 fn place_of(l: Listing) -> Place
     ensures { λ r. ⌜ r ≡ placeIn l ⌝ }
 {
+    let range = Range {
+        from: Epoch(l.t1),
+        to: Epoch(l.t2),
+    };
     Place {
         blocks: l.blocks,
         at: l.at,
@@ -41,6 +49,7 @@ fn place_of(l: Listing) -> Place
         dictionary: l.dictionary,
         length: l.length,
         names: l.names,
+        range,
         entries: l.entries,
         pos: l.pos,
         fields: l.fields,
@@ -81,6 +90,8 @@ fn listing_at(kind: u8, p: Place, from: usize, left: usize) -> Listing
         pos: p.pos,
         from,
         left,
+        t1: p.range.from.0,
+        t2: p.range.to.0,
         blocks: p.blocks,
         names: p.names,
         entries: p.entries,
@@ -101,6 +112,8 @@ fn listing_off(kind: u8, number: u8, place: usize) -> Listing
         pos: 0,
         from: place,
         left: 0,
+        t1: 0,
+        t2: 0,
         blocks: 0,
         names: 0,
         entries: 0,
@@ -139,6 +152,27 @@ pub extern "C" fn hplog_list(log: &[u8], book: &[u8]) -> Listed
         Contents::Sound(blocks, entries) => Listed {
             answer: answer::accepted(entries),
             next: listing_of(states::start(book, blocks as u32, entries)),
+        },
+    }
+}
+
+#[no_mangle]
+pub extern "C" fn hplog_list_range(log: &[u8], book: &[u8], t1: u64, t2: u64) -> Listed
+    ensures { λ r. ⌜ StartedRange (now (log .entry)) (now (book .entry)) t1 t2 r ⌝ }
+{
+    let range = Range {
+        from: Epoch(t1),
+        to: Epoch(t2),
+    };
+    let c = input::check_range(log, book, range);
+    match c {
+        Contents::Refused(w) => Listed {
+            answer: answer::refused(w),
+            next: listing_of(State::Refused(w)),
+        },
+        Contents::Sound(blocks, entries) => Listed {
+            answer: answer::accepted(entries),
+            next: listing_of(states::start_range(log, book, blocks as u32, range)),
         },
     }
 }

@@ -45,6 +45,7 @@ use Rattle.writer_blocks.specs.Block.{Adding, readBy, takeRules, roomRules, blo
 use Rattle.book.specs.Book as book
 use Rattle.contents.specs.Contents as contents
 use Rattle.input.specs.Input as input
+use Rattle.input.specs.Ranges as range
 use Rattle.answer.specs.Answer.{answered}
 use Rattle.host.specs.Open.{hostOpenRules, hostOpenOf}
 use Rattle.host_recovery.specs.Recover.{stopNumber, hostRecoverRules, hostRecoverOf}
@@ -61,7 +62,7 @@ use Rattle.book.specs.declared.Tally.{Tally}
 use Rattle.host_book.specs.Books as books
 use Rattle.host_lister.specs.declared.Listing.{Listing}
 use Rattle.host_lister.specs.declared.Listed as lister
-use Rattle.host_lister.specs.Answers.{hostListOf, Went}
+use Rattle.host_lister.specs.Answers.{hostListOf, hostRangeOf, Went}
 use Rattle.host_writer.specs.declared.State.{State}
 use Rattle.host_writer.specs.State.{writerIn}
 use Rattle.host_writer.specs.Answers as edge
@@ -69,7 +70,7 @@ use Rattle.host_reader.specs.Names.{spanAnswer, numberAnswer, hostNamesOf, host
 use Rattle.host_reader.specs.Steps.{deltaAnswer, countAnswer, fieldAnswer}
 use Rattle.numbers.specs.Numbers.{Listed, Returns, deltaVerdict, countVerdict, fieldVerdict, TableNumbers}
 use Rattle.numbers.proofs.Payloads.{allListed, cond-listed, first-listed, both, ruled-numbered, settled}
-use Rattle.numbers.proofs.Payloads.{delta-at, count-at, field-at, entries-listed, block-listed, pack-numbered}
+use Rattle.numbers.proofs.Payloads.{delta-at, count-at, field-at, rest-listed, entries-listed, block-listed, pack-numbered}
 use Rattle.numbers.proofs.Payloads.{dictionary-numbered, dictionary-listed, lookup-listed, seek-listed, label-listed}
 
 -- ---- files
@@ -393,6 +394,10 @@ input-listed : (x : List ℕ) → Listed (verdictIn (input.inputOf x))
 unfolding input.inputOf
 input-listed x = settled (input.inputRules x) _ (input-numbered x)
 
+range-listed : (f s : List ℕ) (t1 t2 : ℕ) → Listed (verdictIn (range.rangeOf f s t1 t2))
+unfolding range.rangeOf range.rangeRules allListed numberOf
+range-listed f s t1 t2 = settled (range.rangeRules f s t1 t2) _ (contents-numbered f s)
+
 -- ---- all of them
 
 next-accepted : (log book : List ℕ) (from : Listing) (out : List ℕ) (r : lister.Listed) (exit : List ℕ) → Went log book from out r exit → r .answer .number ≡ 0
@@ -400,7 +405,7 @@ next-accepted log book from out r exit h = let q = h .says in cc
 
 pub table-numbers : TableNumbers
 unfolding hostOpenOf hostRecoverOf hostRepairOf hostQueryOf hostLabelOf hostNamesOf hostNameOf hostNameAtOf hostNumberOf hostListOf
-    stored.hostStoredOf stored.hostDictionaryOf hostHeaderOf hostBlockOf books.hostBookOf books.hostPartsOf books.hostPartOf
+    hostRangeOf stored.hostStoredOf stored.hostDictionaryOf hostHeaderOf hostBlockOf books.hostBookOf books.hostPartsOf books.hostPartOf
 table-numbers =
     record {
       header = λ f. first-listed (headerRules f) (header-numbered f);
@@ -413,6 +418,7 @@ table-numbers =
       count = count-at;
       field = field-at;
       wrong = λ place. refl;
+      rest-of-entry = rest-listed;
       entries = entries-listed;
       entries-block = block-listed;
       pack = λ room at d n text k fs. first-listed (packing.packRules room at d n text k fs) (pack-numbered room at d n text k fs);
@@ -440,6 +446,7 @@ table-numbers =
       book-parts = parts-listed;
       contents = contents-listed;
       input = input-listed;
+      range = range-listed;
       hplog-open = λ log rows room. rules-return (hostOpenRules log rows room) _ (host-open-numbered log rows room);
       hplog-recover = λ log rows room. rules-return (hostRecoverRules log rows room) _ (host-recover-numbered log rows room);
       hplog-stop = λ log. stop-returns (recovery.reportOf log .stop) (stop-listed log);
@@ -461,6 +468,7 @@ table-numbers =
       hplog-book-parts = λ s. parts-returns (book.partsOf s) (parts-listed s);
       hplog-book-part = λ s at. refl;
       hplog-list = λ log s. given-returns (contents.contentsOf log s) _ (contents-listed log s);
+      hplog-list-range = λ log s t1 t2. given-returns (range.rangeOf log s t1 t2) _ (range-listed log s t1 t2);
       hplog-list-next = next-accepted;
       hplog-begin = λ s room. storing-returns s (beginOf (writerIn s) room) (begin-listed (writerIn s) room);
       hplog-add-name = λ s d n. naming-returns s (naming.nameOf (writerIn s) d n) (name-listed (writerIn s) d n);

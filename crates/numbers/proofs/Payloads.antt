@@ -15,13 +15,14 @@ use Rattle.cursor.specs.declared.Cursor.{Cursor}
 use Rattle.cursor.specs.Answers.{deltaAt, asDelta, countAt, asCount, fieldAt, asField}
 use Rattle.entries.specs.Model.{Entry}
 use Rattle.entries.specs.Reading.{readFields, orderRules, readEntry, entriesFrom, entriesOf}
+use Rattle.entries.specs.Answers.{asEntry, restAt}
 use Rattle.entries.specs.Block as block
 use Rattle.packing.specs.Rules as packing
 use Rattle.packing.proofs.Answers.{and-both}
 use Rattle.names.specs.Dictionary as names
 use Rattle.lookup.specs.Lookup.{spanOf, lookupOf, seekOf}
 use Rattle.label.specs.Label as label
-use Rattle.numbers.specs.Numbers.{inTable, Listed, deltaVerdict, countVerdict, fieldVerdict}
+use Rattle.numbers.specs.Numbers.{inTable, Listed, deltaVerdict, countVerdict, fieldVerdict, entryVerdict}
 
 -- ---- a refusal's number isn't 0, which says at the C edge that the call was accepted
 
@@ -143,6 +144,20 @@ entry-sure w names start n prev at r =
     (λ d u. keep-sure (firstBroken (orderRules start n prev at d)) _ (order-listed start n prev at d)
     (then-sure (readCount w (drop u r)) _ (count-sure w (drop u r))
     (λ k m. then-sure (readFields k w names (at + u + m) (drop (u + m) r)) _ (fields-sure k w names (at + u + m) (drop (u + m) r)) (λ fs z. tt))))
+
+as-entry : (at : ℕ) (k : Step Entry) → Sure k → Listed (entryVerdict (asEntry at k))
+unfolding asEntry
+as-entry at (step e u) h = tt
+as-entry at (refuse n p) h = h
+
+pub rest-listed : (s : List ℕ) (names time at : ℕ) → Listed (entryVerdict (restAt s names time at))
+unfolding restAt
+rest-listed s names time at =
+    let behind : ℕ → ℕ → Step Entry =
+    λ k m. andThen (readFields k (length s) names (at + m) (drop (at + m) s)) (λ fs z. step (record { time = time; fields = fs }) (m + z)) in
+    as-entry at (andThen (readCount (length s) (drop at s)) behind)
+    (then-sure (readCount (length s) (drop at s)) behind (count-sure (length s) (drop at s))
+    (λ k m. then-sure (readFields k (length s) names (at + m) (drop (at + m) s)) _ (fields-sure k (length s) names (at + m) (drop (at + m) s)) (λ fs z. tt)))
 
 outcome-listed : {A B : Type 0} (s : Step A) (f : A → ℕ → Outcome B) → Sure s
     → ((a : A) (u : ℕ) → Listed (verdictIn (f a u)))

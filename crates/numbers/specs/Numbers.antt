@@ -23,7 +23,10 @@ use Rattle.cursor.specs.declared.CountStep.the-variants as ct
 use Rattle.cursor.specs.declared.FieldStep.{FieldStep}
 use Rattle.cursor.specs.declared.FieldStep.the-variants as ft
 use Rattle.cursor.specs.Answers.{refusal, deltaAt, countAt, fieldAt}
+use Rattle.entries.specs.declared.EntryStep.{EntryStep}
+use Rattle.entries.specs.declared.EntryStep.the-variants as et
 use Rattle.entries.specs.Reading.{entriesOf}
+use Rattle.entries.specs.Answers.{restAt}
 use Rattle.entries.specs.Block.{blockVerdict}
 use Rattle.packing.specs.Rules.{packRules}
 use Rattle.names.specs.Dictionary.{dictionaryOf}
@@ -47,6 +50,7 @@ use Rattle.writer_blocks.specs.Block.{Adding, blockOf}
 use Rattle.book.specs.Book.{bookRules, partsOf}
 use Rattle.contents.specs.Contents.{contentsOf}
 use Rattle.input.specs.Input.{inputOf}
+use Rattle.input.specs.Ranges.{rangeOf}
 use Rattle.host.specs.Open.{hostOpenRules, hostOpenOf}
 use Rattle.host_recovery.specs.Recover.{stopNumber, hostRecoverRules, hostRecoverOf}
 use Rattle.host_recovery.specs.Repair.{hostRepairOf}
@@ -58,7 +62,7 @@ use Rattle.host_access.specs.Block.{hostBlockRules, hostBlockOf}
 use Rattle.host_book.specs.Books.{hostBookOf, hostPartsOf, hostPartOf}
 use Rattle.host_lister.specs.declared.Listing.{Listing}
 use Rattle.host_lister.specs.declared.Listed as lister
-use Rattle.host_lister.specs.Answers.{hostListOf, Went}
+use Rattle.host_lister.specs.Answers.{hostListOf, hostRangeOf, Went}
 use Rattle.host_writer.specs.declared.State.{State}
 use Rattle.host_writer.specs.State.{writerIn}
 use Rattle.host_writer.specs.Answers.{storing, naming, entering}
@@ -93,6 +97,10 @@ abbrev pub fieldVerdict : FieldStep → Verdict
 fieldVerdict (ft.Field f c) = sound
 fieldVerdict (ft.Refused r) = broken (r .number) (r .place)
 
+abbrev pub entryVerdict : EntryStep → Verdict
+entryVerdict (et.Entry t c) = sound
+entryVerdict (et.Refused r) = broken (r .number) (r .place)
+
 pub record TableNumbers : Type 0 where
   -- parts of a file: its header, a block by whichever checksum, what stops a scan over blocks, the dictionary at a
   -- place, the frame
@@ -102,12 +110,14 @@ pub record TableNumbers : Type 0 where
   pub scan : (f : List ℕ) (limit : ℕ) → Listed (blocks.scanOf crc32 f limit .stop)
   pub dictionary-at : (f : List ℕ) (at : ℕ) → Listed (firstBroken (dictionaryRules f at))
   pub frame : (f : List ℕ) → Listed (verdictIn (checkedOf f))
-  -- plain bytes: the reading steps and the refusal made of a place, a block's entries, by themselves and against its
-  -- header, packing an entry, the dictionary, a name by its number, a number by its name, the label
+  -- plain bytes: the reading steps and the refusal made of a place, an entry behind its delta, a block's entries, by
+  -- themselves and against its header, packing an entry, the dictionary, a name by its number, a number by its name,
+  -- the label
   pub delta : (s : List ℕ) (at : ℕ) → Listed (deltaVerdict (deltaAt s at))
   pub count : (s : List ℕ) (at : ℕ) → Listed (countVerdict (countAt s at))
   pub field : (s : List ℕ) (names at : ℕ) → Listed (fieldVerdict (fieldAt s names at))
   pub wrong : (place : ℕ) → inTable (refusal 11 place .number) ≡ true
+  pub rest-of-entry : (s : List ℕ) (names time at : ℕ) → Listed (entryVerdict (restAt s names time at))
   pub entries : (s : List ℕ) (start names : ℕ) → Listed (verdictIn (entriesOf s start names))
   pub entries-block : (s : List ℕ) (h : BlockHeader) (names : ℕ) → Listed (blockVerdict s h names)
   pub pack : (room at delta names : ℕ) (text : List ℕ) (count : ℕ) (fs : List Field)
@@ -137,11 +147,13 @@ pub record TableNumbers : Type 0 where
   pub block : (w : Writer) (a : Adding) (table room : ℕ) → Listed (verdictIn (blockOf w a table room))
   pub close : (w : Writer) (table plain stored : List ℕ) (room : ℕ)
       → Listed (verdictIn (closeOf w table plain stored room))
-  -- the listing: a plain book, with its log's number of blocks and without, a log with its book, the program's input
+  -- the listing: a plain book, with its log's number of blocks and without, a log with its book, the program's input,
+  -- a range of times
   pub book : (blocks : ℕ) (s : List ℕ) → Listed (firstBroken (bookRules blocks s))
   pub book-parts : (s : List ℕ) → Listed (verdictIn (partsOf s))
   pub contents : (f s : List ℕ) → Listed (verdictIn (contentsOf f s))
   pub input : (x : List ℕ) → Listed (verdictIn (inputOf x))
+  pub range : (f s : List ℕ) (t1 t2 : ℕ) → Listed (verdictIn (rangeOf f s t1 t2))
   -- the C edge, files and rows: opening, recovery and what its report says of the stop, repair, the choice of blocks
   pub hplog-open : (log : List ℕ) (rows frame : ℕ)
       → Returns (firstBroken (hostOpenRules log rows frame)) (hostOpenOf log rows frame .number)
@@ -175,8 +187,10 @@ pub record TableNumbers : Type 0 where
   pub hplog-book : (s : List ℕ) (blocks : ℕ) → Returns (firstBroken (bookRules blocks s)) (hostBookOf s blocks .number)
   pub hplog-book-parts : (s : List ℕ) → Returns (verdictIn (partsOf s)) (hostPartsOf s .number)
   pub hplog-book-part : (s : List ℕ) (at : ℕ) → hostPartOf s at .number ≡ 0
-  -- the C edge, the listing: its start, and its pieces, of which none is refused
+  -- the C edge, the listing: its start, that of a range, and its pieces, of which none is refused
   pub hplog-list : (log book : List ℕ) → Returns (verdictIn (contentsOf log book)) (hostListOf log book .number)
+  pub hplog-list-range : (log book : List ℕ) (t1 t2 : ℕ)
+      → Returns (verdictIn (rangeOf log book t1 t2)) (hostRangeOf log book t1 t2 .number)
   pub hplog-list-next : (log book : List ℕ) (from : Listing) (out : List ℕ) (r : lister.Listed) (exit : List ℕ)
       → Went log book from out r exit
       → r .answer .number ≡ 0

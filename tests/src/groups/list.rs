@@ -126,6 +126,42 @@ pub fn list(check: &mut Check, random: &mut Random) {
     let (answer, text) = reference::listing(&log, &book);
     let listed = listed(check, &log, &book, answer);
     pieces(check, random, &log, &book, listed.next, &text);
+    ranges(check, random, &log, &book);
+}
+
+/// A time at an entry or beside one, or any other.
+fn time_near(random: &mut Random, times: &[u64]) -> u64 {
+    if times.is_empty() || random.once_in(6) {
+        return random.edge();
+    }
+    let time = random.pick(times);
+    random.pick(&[time, time, time.saturating_sub(1), time.saturating_add(1)])
+}
+
+/// Ranges of times: one that may be empty or reversed, and where the entries are few each of theirs at both edges.
+fn ranges(check: &mut Check, random: &mut Random, log: &[u8], book: &[u8]) {
+    let times = reference::times(log, book);
+    let (a, b) = (time_near(random, &times), time_near(random, &times));
+    let (t1, t2) = if random.once_in(8) { (a.max(b), a.min(b)) } else { (a.min(b), a.max(b)) };
+    range(check, random, log, book, t1, t2);
+    range(check, random, log, book, 0, u64::MAX);
+    if times.len() <= 5 {
+        for &time in &times {
+            range(check, random, log, book, time, time);
+            range(check, random, log, book, 0, time.saturating_sub(1));
+            range(check, random, log, book, time.saturating_add(1), u64::MAX);
+        }
+    }
+}
+
+/// The entries of a range: the check with both placements, and all pieces.
+fn range(check: &mut Check, random: &mut Random, log: &[u8], book: &[u8], t1: u64, t2: u64) {
+    let (answer, text) = reference::range(log, book, t1, t2);
+    let [first, second] = [Side::Start, Side::End]
+        .map(|side| check.lend("list_range", [log, book], &[], side, |[log, book], []| edge::list_range(log, book, t1, t2)).0);
+    check.same(&format!("list_range from {t1} to {t2}"), &[log, book], answer, first.answer);
+    check.same("list_range, the two placements", &[log, book], first, second);
+    pieces(check, random, log, book, first.next, &text);
 }
 
 /// The check alone, with both placements.

@@ -43,7 +43,7 @@ returns-2 c =
       text =
           rw (c .listing-of2 .ensures)
           (ap joined (c .before .start .ensures (a .log .now))
-          ∙ printed _ _ _ (λ i. omega (arith, k .before .before .before .shared-slice-known2 .given i)) (sym e)
+          ∙ printed _ _ _ (sym e) (λ i. omega (arith, k .before .before .before .shared-slice-known2 .given i))
           ∙ ap (printedOf _ _) e);
     }
 
