@@ -10,6 +10,7 @@ use Rattle.claims.proofs.Rewritten.{rewritten}
 use Rattle.claims.proofs.Records.{rewritable}
 use Rattle.claims.proofs.Demand3.{demand-3}
 use Rattle.claims.proofs.Worked.{worked}
+use Rattle.input.proofs.Counting.{entries-counted}
 use Rattle.edge.proofs.Edge.{edge-refines}
 use Rattle.edge.proofs.EdgeDemand2.{edge-demand-2, edge-use}
 use Rattle.edge.proofs.EdgeDemand3.{edge-demand-3}
@@ -33,5 +34,6 @@ mission =
       edge-finished = edge-demand-2;
       edge-used = edge-use;
       edge-recovered = edge-demand-3;
+      counted = entries-counted;
       worked = worked;
     }

@@ -1,6 +1,7 @@
--- What the library must hold to, all of it: the three demands, over the calls and at the C edge, and the paper's worked
--- cases. Assumes nothing.
+-- What the library must hold to, all of it: the three demands, over the calls and at the C edge, the count in a listing,
+-- and the paper's worked cases. Assumes nothing.
 use Rattle.numbers.specs.Numbers.{TableNumbers}
+use Rattle.input.specs.Counted.{EntriesCounted}
 use Rattle.claims.specs.Demand1.{RefusalsLeave}
 use Rattle.claims.specs.Built.{NamesBuilt, EntriesBuilt}
 use Rattle.claims.specs.Steps.{StepsRead}
@@ -33,5 +34,7 @@ pub record Mission : Type 0 where
   pub edge-finished : EdgeDemand2
   pub edge-used : EdgeUse
   pub edge-recovered : EdgeDemand3
+  -- the listing: as many entries as its first line says
+  pub counted : EntriesCounted
   -- K1 to K9
   pub worked : Worked
