@@ -1,6 +1,5 @@
 /* hplog names: the names of plain dictionaries. */
 #include "book.h"
-#include "bytes.h"
 #include "commands.h"
 #include "hplog.h"
 #include "input.h"
@@ -11,19 +10,20 @@
 
 #include <stdio.h>
 
-/* Walks a dictionary that hplog_names has accepted. hplog_name would check it again for each name. */
-static void print_names(const uint8_t *dictionary, uint64_t count, bool is_plain)
+/* Goes from name to name in a dictionary that hplog_names has accepted. hplog_name would check it again for each. */
+static void print_names(const book_part *dictionary, uint64_t count, bool is_plain)
 {
-    const uint8_t *at = dictionary + 4;
+    uint64_t at = HPLOG_FIRST_NAME;
     for (uint64_t i = 0; i < count; i++) {
-        size_t length = bytes_u16(at + 2);
+        hplog_answer name = hplog_name_at(dictionary->bytes, dictionary->length, at);
+        const uint8_t *bytes = dictionary->bytes + name.place;
         printf(is_plain ? "name %llu " : "%5llu  ", (unsigned long long)i);
         if (is_plain)
-            text_name(stdout, at + 4, length);
+            text_name(stdout, bytes, (size_t)name.count);
         else
-            text_shown(stdout, at + 4, length);
+            text_shown(stdout, bytes, (size_t)name.count);
         putchar('\n');
-        at += 4 + length;
+        at = name.place + name.count;
     }
 }
 
@@ -47,7 +47,7 @@ static int names(const input *book, bool is_plain)
     if (!is_plain)
         printf(": %s %s", text_number(answer.count, text), answer.count == 1 ? "name" : "names");
     putchar('\n');
-    print_names(dictionary.bytes, answer.count, is_plain);
+    print_names(&dictionary, answer.count, is_plain);
     progress_end();
     return STATUS_ACCEPTED;
 }

@@ -42,6 +42,7 @@ extern "C" {
 #define HPLOG_PANEL 16        /* bytes of a panel, see hplog_label */
 #define HPLOG_FIELD 24        /* bytes of a field to write, see hplog_add_entry */
 #define HPLOG_BLOCKS 4096     /* the most blocks that a file has */
+#define HPLOG_FIRST_NAME 4    /* where the id of a plain dictionary's first name stands, see hplog_name_at */
 #define HPLOG_BOOK_FIRST 5    /* where the first part of a plain book stands, see hplog_book_part */
 #define HPLOG_PIECE 50        /* an output of so many bytes has room for some of any listing that is left */
 
@@ -109,6 +110,11 @@ hplog_answer hplog_names(const uint8_t *dictionary, size_t dictionary_len);
 
 /* Finds name i of a plain dictionary; place = the offset of its bytes, count = how many they are. Refusals in order: 10; (14, i). */
 hplog_answer hplog_name(const uint8_t *dictionary, size_t dictionary_len, uint64_t i);
+
+/* Finds the bytes of the name whose id stands at an offset, the first at HPLOG_FIRST_NAME; place and count as in
+ * hplog_name. The next name's id stands right behind them. What would lie past the dictionary's end is not there. No
+ * refusals: the offsets of a dictionary that hplog_names accepted are right, and nothing else is checked. */
+hplog_answer hplog_name_at(const uint8_t *dictionary, size_t dictionary_len, uint64_t at);
 
 /* Finds the number of a name in a plain dictionary; place = 1 and count = the number, and both are 0 where there is no
  * such name. Refusal: 10. */

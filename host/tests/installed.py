@@ -59,7 +59,7 @@ def documented(suite):
     """Every call of the header is in hplog.3, and every command and option of the help is in hplog.1."""
     header, calls = (ROOT / "include/hplog.h").read_text(), (ROOT / "man/hplog.3").read_text()
     names = set(re.findall(r"^hplog_\w+ (hplog_\w+)\(", header, re.MULTILINE))
-    suite.holds("the header has 27 calls", len(names) == 27, str(sorted(names)))
+    suite.holds("the header has 28 calls", len(names) == 28, str(sorted(names)))
     for name in sorted(names):
         suite.holds(f"{name} is in hplog.3", f'.Fn {name} "' in calls)
     manual = (ROOT / "man/hplog.1").read_text()

@@ -38,6 +38,7 @@ static const struct {
     hplog_answer (*dictionary)(const uint8_t *, size_t, const uint8_t *, size_t);
     hplog_answer (*names)(const uint8_t *, size_t);
     hplog_answer (*name)(const uint8_t *, size_t, uint64_t);
+    hplog_answer (*name_at)(const uint8_t *, size_t, uint64_t);
     hplog_answer (*number)(const uint8_t *, size_t, const uint8_t *, size_t);
     hplog_step (*delta)(const uint8_t *, size_t, hplog_cursor);
     hplog_step (*count)(const uint8_t *, size_t, hplog_cursor);
@@ -56,8 +57,9 @@ static const struct {
     hplog_written (*add_block)(hplog_writer, uint8_t *, size_t, uint8_t *, size_t, uint64_t, const uint8_t *, size_t, const uint8_t *, size_t, uint32_t);
     hplog_written (*close)(hplog_writer, const uint8_t *, size_t, uint8_t *, size_t, const uint8_t *, size_t, const uint8_t *, size_t);
 } calls = {hplog_open, hplog_query, hplog_recover, hplog_repair, hplog_label, hplog_block, hplog_stored, hplog_dictionary,
-           hplog_names, hplog_name, hplog_number, hplog_delta, hplog_count, hplog_field, hplog_check_block,
-           hplog_book, hplog_book_parts, hplog_book_part, hplog_list, hplog_list_range, hplog_list_next,
+           hplog_names, hplog_name, hplog_name_at, hplog_number, hplog_delta, hplog_count, hplog_field,
+           hplog_check_block, hplog_book, hplog_book_parts, hplog_book_part, hplog_list, hplog_list_range,
+           hplog_list_next,
            hplog_writer_new, hplog_begin, hplog_add_name, hplog_add_entry, hplog_add_block, hplog_close};
 
 static int failed;
@@ -176,6 +178,10 @@ static void small_file(void) {
     check(accepted(calls.label(wet, 3, panel, sizeof panel), 0) && memcmp(panel, "wet             ", sizeof panel) == 0, "label");
     check(accepted(calls.names(names, sizeof names), 2), "names");
     check(accepted(calls.name(names, sizeof names, 1), 3) && calls.name(names, sizeof names, 1).place == 16, "name");
+    check(found(calls.name_at(names, sizeof names, HPLOG_FIRST_NAME), 8, 4), "name_at of the first");
+    check(found(calls.name_at(names, sizeof names, 12), 16, 3), "name_at of the second");
+    check(found(calls.name_at(names, sizeof names - 1, 12), 16, 2), "name_at of a cut one");
+    check(found(calls.name_at(names, sizeof names, UINT64_MAX), sizeof names, 0), "name_at past the end");
     check(found(calls.number(names, sizeof names, wet, 3), 1, 1), "number");
     check(found(calls.number(names, sizeof names, wet, 2), 0, 0), "number of a name that is not there");
     block = calls.block(log, sizeof log, table, sizeof table, 0);

@@ -25,6 +25,7 @@ hplog_answer hplog_stored(const uint8_t *, size_t, const uint8_t *, size_t, uint
 hplog_answer hplog_dictionary(const uint8_t *, size_t, const uint8_t *, size_t);
 hplog_answer hplog_names(const uint8_t *, size_t);
 hplog_answer hplog_name(const uint8_t *, size_t, uint64_t);
+hplog_answer hplog_name_at(const uint8_t *, size_t, uint64_t);
 hplog_answer hplog_number(const uint8_t *, size_t, const uint8_t *, size_t);
 hplog_step hplog_delta(const uint8_t *, size_t, hplog_cursor);
 hplog_step hplog_count(const uint8_t *, size_t, hplog_cursor);

@@ -36,6 +36,7 @@ mod foreign {
         pub fn hplog_dictionary(log: *const u8, log_len: usize, frame: *const u8, frame_len: usize) -> Answer;
         pub fn hplog_names(dictionary: *const u8, dictionary_len: usize) -> Answer;
         pub fn hplog_name(dictionary: *const u8, dictionary_len: usize, i: u64) -> Answer;
+        pub fn hplog_name_at(dictionary: *const u8, dictionary_len: usize, at: u64) -> Answer;
         pub fn hplog_number(dictionary: *const u8, dictionary_len: usize, name: *const u8, name_len: usize) -> Answer;
         pub fn hplog_delta(payload: *const u8, payload_len: usize, at: Cursor) -> Step;
         pub fn hplog_count(payload: *const u8, payload_len: usize, at: Cursor) -> Step;
@@ -128,6 +129,10 @@ pub fn names(dictionary: &[u8]) -> Answer {
 
 pub fn name(dictionary: &[u8], i: u64) -> Answer {
     unsafe { foreign::hplog_name(dictionary.as_ptr(), dictionary.len(), i) }
+}
+
+pub fn name_at(dictionary: &[u8], at: u64) -> Answer {
+    unsafe { foreign::hplog_name_at(dictionary.as_ptr(), dictionary.len(), at) }
 }
 
 pub fn number(dictionary: &[u8], name: &[u8]) -> Answer {

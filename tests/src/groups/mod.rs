@@ -17,7 +17,7 @@ pub struct Group {
     pub run: fn(&mut Check, &mut Random),
 }
 
-pub const GROUPS: [Group; 18] = [
+pub const GROUPS: [Group; 19] = [
     Group { name: "open", cases: 6000, run: file::open },
     Group { name: "query", cases: 20_000, run: file::query },
     Group { name: "recover", cases: 6000, run: file::recover },
@@ -26,6 +26,7 @@ pub const GROUPS: [Group; 18] = [
     Group { name: "label", cases: 10_000, run: plain::label },
     Group { name: "names", cases: 10_000, run: plain::names },
     Group { name: "name", cases: 10_000, run: plain::name },
+    Group { name: "name_at", cases: 10_000, run: plain::name_at },
     Group { name: "number", cases: 4000, run: plain::number },
     Group { name: "steps", cases: 4000, run: plain::steps },
     Group { name: "block", cases: 6000, run: list::block },

@@ -4,7 +4,7 @@ use crate::check::{awkward, filled, Check};
 use crate::edge;
 use hplog_tests::make;
 use hplog_tests::random::Random;
-use hplog_tests::records::Cursor;
+use hplog_tests::records::{Answer, Cursor};
 use hplog_tests::reference;
 
 pub fn label(check: &mut Check, random: &mut Random) {
@@ -74,6 +74,40 @@ pub fn name(check: &mut Check, random: &mut Random) {
             |[dictionary], []| edge::name(dictionary, i),
         );
     }
+}
+
+/// Names by the places of their ids: at any place, and from name to name in a dictionary that breaks no rule.
+pub fn name_at(check: &mut Check, random: &mut Random) {
+    let dictionary = dictionary(random);
+    let near = (dictionary.len() as u64).saturating_sub(random.below(8) as u64);
+    for at in [near, random.edge(), random.below(dictionary.len() + 2) as u64, u64::MAX - random.below(6) as u64] {
+        check.call(
+            &format!("name_at {at}"),
+            [&dictionary],
+            &mut [],
+            |[dictionary], []| reference::name_at(dictionary, at),
+            |[dictionary], []| edge::name_at(dictionary, at),
+        );
+    }
+    if let Ok(places) = reference::name_places(&dictionary) {
+        from_name_to_name(check, random, &dictionary, &places);
+    }
+}
+
+/// Each step gives what the name's number gives, and the last one ends the dictionary. Few of many names are asked for
+/// by number, which checks the whole dictionary each time.
+fn from_name_to_name(check: &mut Check, random: &mut Random, dictionary: &[u8], places: &[(usize, usize)]) {
+    let mut at = reference::FIRST_NAME as u64;
+    for (i, &(from, length)) in places.iter().enumerate() {
+        let name = edge::name_at(dictionary, at);
+        let expected = Answer { number: 0, place: from as u64, count: length as u64 };
+        check.same("name_at, the next name", &[dictionary], expected, name);
+        if places.len() < 10 || random.once_in(places.len()) {
+            check.same("name_at as name", &[dictionary], edge::name(dictionary, i as u64), name);
+        }
+        at = name.place + name.count;
+    }
+    check.same("name_at, behind the last", &[dictionary], dictionary.len() as u64, at);
 }
 
 pub fn number(check: &mut Check, random: &mut Random) {

@@ -133,6 +133,9 @@ fn the_small_file_in_parts() {
     assert_eq!(stored(&file, &rows, 0), found(100, 3));
     assert_eq!(stored(&file, &rows, 1), Answer { number: 14, place: 1, count: 0 });
     assert_eq!(dictionary(&file, &frame), found(107, 1));
+    assert_eq!(name_at(DICTIONARY, FIRST_NAME as u64), found(8, 4));
+    assert_eq!(name_at(DICTIONARY, 12), found(16, 3));
+    assert_eq!(name_at(DICTIONARY, 19), found(19, 0));
     assert_eq!(number(DICTIONARY, b"wet"), found(1, 1));
     assert_eq!(number(DICTIONARY, b"we"), found(0, 0));
     assert_eq!(check_block(&file, 64, &PLAIN, 2), found(0, 2));
