@@ -95,11 +95,11 @@ def silent(suite):
 
 
 def printing(suite):
-    """A listing of eight GiB, ended once progress is seen: one that goes elsewhere, or of which nothing is printed yet."""
+    """A listing of eight GiB, or half of it, that goes elsewhere and is ended once progress is seen."""
     log, book = suite.path("long.hplog"), suite.path("long.plb")
     write_long_text(log, book, 1 << 30)
-    for words, out in ((["cat", log, book], subprocess.DEVNULL), (["read", log, book, "--from", "1001"], None)):
-        process, terminal = suite.start_on_terminal(*words, stdout=out)
+    for words in (["cat", log, book], ["read", log, book, "--from", "1001"]):
+        process, terminal = suite.start_on_terminal(*words, stdout=subprocess.DEVNULL)
         text = terminal.until(b" MiB, ") + terminal.until(b" s")
         suite.holds(f"progress of {words[0]}", re.search(rb"\rhplog: listing, \d+ MiB, \d+ s", text) is not None, repr(text))
         process.send_signal(signal.SIGINT)

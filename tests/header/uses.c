@@ -59,8 +59,7 @@ static const struct {
 } calls = {hplog_open, hplog_query, hplog_recover, hplog_repair, hplog_label, hplog_block, hplog_stored, hplog_dictionary,
            hplog_names, hplog_name, hplog_name_at, hplog_number, hplog_delta, hplog_count, hplog_field,
            hplog_check_block, hplog_book, hplog_book_parts, hplog_book_part, hplog_list, hplog_list_range,
-           hplog_list_next,
-           hplog_writer_new, hplog_begin, hplog_add_name, hplog_add_entry, hplog_add_block, hplog_close};
+           hplog_list_next, hplog_writer_new, hplog_begin, hplog_add_name, hplog_add_entry, hplog_add_block, hplog_close};
 
 static int failed;
 
