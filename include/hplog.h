@@ -167,9 +167,9 @@ hplog_answer hplog_check_block(const uint8_t *log, size_t log_len, uint64_t at, 
  * count = how many there are. Refusals: the book's; last (6, offset) of the first byte that is left over. */
 hplog_answer hplog_book(const uint8_t *book, size_t book_len, uint32_t blocks);
 
-/* Checks a book whose log is not at hand: its parts go on to its end, and there is one at least. count = parts, the last
- * of which is the dictionary; place = where that one stands. Refusals: the book's. hplog_book accepts such a book with
- * count - 1 blocks, and with no other number. */
+/* Checks a book whose log is not at hand: its parts go on to its end, and there is one at least. count = parts, the
+ * last of which is the dictionary; place = where that one stands. Refusals: the book's. hplog_book accepts such a book
+ * with count - 1 blocks, and with no other number. */
 hplog_answer hplog_book_parts(const uint8_t *book, size_t book_len);
 
 /* Finds the plain bytes of the part that stands at an offset, the first at HPLOG_BOOK_FIRST; place and count as in

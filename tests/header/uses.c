@@ -56,10 +56,11 @@ static const struct {
     hplog_written (*add_entry)(hplog_writer, uint8_t *, size_t, uint64_t, const uint8_t *, size_t, const uint8_t *, size_t);
     hplog_written (*add_block)(hplog_writer, uint8_t *, size_t, uint8_t *, size_t, uint64_t, const uint8_t *, size_t, const uint8_t *, size_t, uint32_t);
     hplog_written (*close)(hplog_writer, const uint8_t *, size_t, uint8_t *, size_t, const uint8_t *, size_t, const uint8_t *, size_t);
-} calls = {hplog_open, hplog_query, hplog_recover, hplog_repair, hplog_label, hplog_block, hplog_stored, hplog_dictionary,
-           hplog_names, hplog_name, hplog_name_at, hplog_number, hplog_delta, hplog_count, hplog_field,
-           hplog_check_block, hplog_book, hplog_book_parts, hplog_book_part, hplog_list, hplog_list_range,
-           hplog_list_next, hplog_writer_new, hplog_begin, hplog_add_name, hplog_add_entry, hplog_add_block, hplog_close};
+} calls = {hplog_open, hplog_query, hplog_recover, hplog_repair, hplog_label, hplog_block, hplog_stored,
+           hplog_dictionary, hplog_names, hplog_name, hplog_name_at, hplog_number, hplog_delta, hplog_count,
+           hplog_field, hplog_check_block, hplog_book, hplog_book_parts, hplog_book_part, hplog_list,
+           hplog_list_range, hplog_list_next, hplog_writer_new, hplog_begin, hplog_add_name, hplog_add_entry,
+           hplog_add_block, hplog_close};
 
 static int failed;
 

@@ -1,5 +1,5 @@
--- What the library must hold to, all of it: the three demands, over the calls and at the C edge, the count in a listing,
--- and the paper's worked cases. Assumes nothing.
+-- What the library must hold to, all of it: the three demands, over the calls and at the C edge, the count in a
+-- listing, and the paper's worked cases. Assumes nothing.
 use Rattle.numbers.specs.Numbers.{TableNumbers}
 use Rattle.input.specs.Counted.{EntriesCounted}
 use Rattle.claims.specs.Demand1.{RefusalsLeave}
