@@ -170,7 +170,7 @@ static void small_file(void) {
     check(memcmp(rows, room, sizeof rows) == 0 && room[HPLOG_ROW] == 0x5A, "open leaves what is behind the rows");
     check(accepted(calls.recover(log, 103, room, sizeof room, report, sizeof report), 1), "recover with room to spare");
     check(refused(calls.open(log, 10, room, HPLOG_ROW - 1, frame, sizeof frame), 1, 10), "open of a short file");
-    check(refused(calls.recover(log, 10, room, HPLOG_ROW - 1, report, sizeof report), 1, 10), "recover of a short file");
+    check(refused(calls.recover(log, 10, room, HPLOG_ROW - 1, report, sizeof report), 1, 10), "recover of a short one");
     check(accepted(calls.query(rows, sizeof rows, 0, 999, numbers, sizeof numbers), 0), "K5, before the block");
     check(accepted(calls.query(rows, sizeof rows, 0, 1000, numbers, sizeof numbers), 1), "K5, its start");
     check(accepted(calls.query(rows, sizeof rows, 1006, 2000, numbers, sizeof numbers), 0), "K6, behind the block");
