@@ -240,7 +240,8 @@ hplog_written hplog_begin(hplog_writer state, uint8_t *out, size_t out_len);
  * at all it is four zero bytes, which no call writes); count = its number, the old one for a name already held, which
  * is one that the lent bytes have in full. Refusals in order: 17; for a name not held (6, 65536) with 65,535 names;
  * (6, name_len) above 65,535; (10, 0) where the name is not UTF-8; (12, state.dictionary + 4 + name_len), also where
- * dictionary_len is below state.dictionary. */
+ * dictionary_len is below state.dictionary. Each call looks at every name held, some 2 ns each where it was measured:
+ * 65,535 names take some five seconds in all. */
 hplog_written hplog_add_name(hplog_writer state, uint8_t *dictionary, size_t dictionary_len, const uint8_t *name, size_t name_len);
 
 /* Adds an entry to the plain bytes of the open block in payload (next.plain bytes of it), opening a block where none is; count = 0.
