@@ -4,18 +4,19 @@ use Prim.Native.Nat.{_-_, _≤_}
 use native.Mathlib.Omega.{arith}
 use lib.ListN.{length, take, length-set}
 use lib.Seq.{take-set-le}
-use Rattle.crc32.specs.Inner.{Clear}
-use Rattle.crc32.proofs.Window.{clear-turn}
+use Rattle.crc32_fold.specs.Fold.{Clear}
+use Rattle.crc32_fold.proofs.Window.{clear-turn}
 use borrow.Author.Needs.{needs}
 use Rattle.crc32.proofs.clear.Statement.{statement}
 use Rattle.crc32.proofs.clear.Tie as tie
 
--- the bytes from 300 to i are cleared
+-- the bytes from the reach to i are cleared
 abbrev Inv-loop : tie.InvT-loop
-Inv-loop window₀ i₀ window i = (300 ≤ i) × ((i ≤ 459) × ((length window ≡ 1324) × ((take 300 window ≡ take 300 window₀) × Clear window i)))
+Inv-loop window₀ reach end i₀ window i =
+    (reach ≤ i) × ((i ≤ end) × ((length window ≡ length window₀) × ((take reach window ≡ take reach window₀) × Clear reach window i)))
 
 abbrev μ-loop : tie.MeasureT-loop
-μ-loop window₀ i₀ window i = 459 - i
+μ-loop window₀ reach end i₀ window i = end - i
 
 loop-holds : tie.Need-loop-holds Inv-loop μ-loop
 loop-holds c = (search needs, (search needs, (search needs, (refl, λ k low l. absurd (omega arith)))))
@@ -28,7 +29,7 @@ loop-again c =
         search needs,
         (
           simp length-set (l .inv .1 .1 .0),
-          (take-set-le 300 (l .window) (l .i) 0 (search needs) ∙ l .inv .1 .1 .1 .0, clear-turn (l .window) (l .i) (omega arith) (l .inv .1 .1 .1 .1)),
+          (take-set-le (c .before .before .args .reach) (l .window) (l .i) 0 (search needs) ∙ l .inv .1 .1 .1 .0, clear-turn (c .before .before .args .reach) (l .window) (l .i) (omega arith) (l .inv .1 .1 .1 .1)),
         ),
       ),
     )
