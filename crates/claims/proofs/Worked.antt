@@ -9,7 +9,8 @@ use mir.Facts.{and-yes}
 use Rattle.verdict.specs.Rules.{firstBroken, holds, numberOf, ruled}
 use Rattle.verdict.specs.Rules as rules
 use Rattle.wire.specs.Wire.{le, fromLe, leAt, splice, same, Bytes}
-use Rattle.crc32.specs.Crc.{bitStep, steps, byteStep, crcFrom, crc32}
+use Rattle.crc32_register.specs.Register.{bitStep, steps, byteStep, crcFrom}
+use Rattle.crc32.specs.Crc.{crc32}
 use Rattle.utf8.specs.Utf8.{within, tails, shapes, followers, utf8From, utf8Of}
 use Rattle.varint.specs.Varint.{above, decodeIn, decode, encodeIn, encode}
 use Rattle.parts.specs.Parts.{spelled, headerFields, headerBytes, headerOf, blockHeaderFields, blockHeaderBytes}
