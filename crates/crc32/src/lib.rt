@@ -1,11 +1,17 @@
-// CRC-32 of ITU-T V.42, without tables: a long input is folded onto its last 4,032 bytes, these or a shorter input onto the last 304, and what is left
-// goes through the register.
+// CRC-32 of ITU-T V.42, without tables: a long input is folded onto its last 4,032 bytes, through a ring of the last 4,018
+// that were taken out.
 ghost use mathlib.Core.Path.{_≡_};
-ghost use Prim.Native.Nat.{_+_, _-_, _<_, _≤_, min};
-ghost use lib.ListN.{length, take, drop};
-ghost use Rattle.crc32_fold.specs.Fold.{folded, merged, reduced, Clear};
+ghost use Prim.Native.Nat.{_+_, _-_, _≤_, min};
+ghost use lib.ListN.{length, drop};
+ghost use Rattle.crc32_fold.specs.Fold.{initial, folded, merged, reduced};
 ghost use Rattle.crc32.specs.Crc.{crc32};
 ghost use Rattle.crc32.specs.Far.{far};
+ghost use Rattle.crc32.specs.Inner.{from, added};
+
+// How far a byte that is taken out reaches, and how many are left in the end.
+const REACH: usize = 4018;
+
+const LEFT: usize = 4032;
 
 fn least(a: usize, b: usize) -> usize
     ensures { λ r. ⌜ r ≡ min a b ⌝ }
@@ -13,93 +19,121 @@ fn least(a: usize, b: usize) -> usize
     if a < b { a } else { b }
 }
 
-// How far a byte that is taken out reaches, how many are taken out before the window is moved on, how many are left in the end, and how far into the
-// window these look.
-const FAR: usize = 4018;
-
-const FAR_CHUNK: usize = 8192;
-
-const FAR_WINDOW: usize = FAR + FAR_CHUNK;
-
-const FAR_LEFT: usize = 4032;
-
-const FAR_LOOK: usize = FAR_LEFT + 2091;
-
-// Takes n bytes out, from an offset on. The window begins with the last 4,018 that were taken out; the next are put behind them.
-fn far_chunk(window: &mut [u8], s: &[u8], at: usize, n: usize)
-    requires { ⌜ (length (now window) ≡ 12210) × (n ≤ 8192) × (at + n ≤ length (now s)) ⌝ }
-    ensures { λ _. ⌜ (length (now (window .exit)) ≡ 12210) × (take 4018 (drop n (now (window .exit))) ≡ folded far n (take 4018 (now (window .entry))) (drop at (now (s .entry)))) ⌝ }
+fn most(a: usize, b: usize) -> usize
+    ensures { λ r. ⌜ r ≡ a + (b - a) ⌝ }
 {
+    if a < b { b } else { a }
+}
+
+// The ring before the first byte is taken out, to be read from a place on: the register's four bytes, all bits set.
+fn first_ring(at: usize) -> [u8; REACH]
+    requires { ⌜ at ≤ 4018 ⌝ }
+    ensures { λ r. ⌜ (length r ≡ 4018) × (from at r ≡ initial 4018 0xFFFFFFFF) ⌝ }
+{
+    let mut ring = [0u8; REACH];
+    ring[at % REACH] = 255;
+    ring[(at + 1) % REACH] = 255;
+    ring[(at + 2) % REACH] = 255;
+    ring[(at + 3) % REACH] = 255;
+    ring
+}
+
+// Takes bytes out, from an offset on: those that go to the ring's places from i on, up to the end of its first, second or
+// third part. In the first all places that a byte looks at stand behind its own; in the second one does, in the third none.
+fn fold_first(ring: &mut [u8], i: usize, s: &[u8], at: usize)
+    requires { ⌜ (length (now ring) ≡ 4018) × (at + (1927 - i) ≤ length (now s)) ⌝ }
+    ensures { λ _. ⌜ (length (now (ring .exit)) ≡ 4018) × (from (i + (1927 - i)) (now (ring .exit)) ≡ folded far (1927 - i) (from i (now (ring .entry))) (drop at (now (s .entry)))) ⌝ }
+{
+    let mut k = i;
+    while k < 1927 {
+        ring[k] = s[at + (k - i)] ^ (ring[k] ^ (ring[k + 1837] ^ ring[k + 2091]));
+        k += 1;
+    }
+}
+
+fn fold_second(ring: &mut [u8], i: usize, s: &[u8], at: usize)
+    requires { ⌜ (length (now ring) ≡ 4018) × (1927 ≤ i) × (at + (2181 - i) ≤ length (now s)) ⌝ }
+    ensures { λ _. ⌜ (length (now (ring .exit)) ≡ 4018) × (from (i + (2181 - i)) (now (ring .exit)) ≡ folded far (2181 - i) (from i (now (ring .entry))) (drop at (now (s .entry)))) ⌝ }
+{
+    let mut k = i;
+    while k < 2181 {
+        ring[k] = s[at + (k - i)] ^ (ring[k] ^ (ring[k + 1837] ^ ring[k - 1927]));
+        k += 1;
+    }
+}
+
+fn fold_third(ring: &mut [u8], i: usize, s: &[u8], at: usize)
+    requires { ⌜ (length (now ring) ≡ 4018) × (2181 ≤ i) × (at + (4018 - i) ≤ length (now s)) ⌝ }
+    ensures { λ _. ⌜ (length (now (ring .exit)) ≡ 4018) × (from (i + (4018 - i)) (now (ring .exit)) ≡ folded far (4018 - i) (from i (now (ring .entry))) (drop at (now (s .entry)))) ⌝ }
+{
+    let mut k = i;
+    while k < 4018 {
+        ring[k] = s[at + (k - i)] ^ (ring[k] ^ (ring[k - 2181] ^ ring[k - 1927]));
+        k += 1;
+    }
+}
+
+// Takes bytes out up to the ring's end.
+fn fold_round(ring: &mut [u8], i: usize, s: &[u8], at: usize)
+    requires { ⌜ (length (now ring) ≡ 4018) × (i ≤ 4018) × (at + (4018 - i) ≤ length (now s)) ⌝ }
+    ensures { λ _. ⌜ (length (now (ring .exit)) ≡ 4018) × (now (ring .exit) ≡ folded far (4018 - i) (from i (now (ring .entry))) (drop at (now (s .entry)))) ⌝ }
+{
+    let second = most(i, 1927);
+    let third = most(i, 2181);
+    fold_first(ring, i, s, at);
+    fold_second(ring, second, s, at + (second - i));
+    fold_third(ring, third, s, at + (third - i));
+}
+
+// Adds bytes to those of an output, as far as both go.
+fn add(out: &mut [u8], s: &[u8])
+    ensures { λ _. ⌜ now (out .exit) ≡ added (now (out .entry)) (now (s .entry)) ⌝ }
+{
+    let n = least(out.len(), s.len());
     let mut i = 0;
     while i < n {
-        window[i + FAR] = s[at + i] ^ (window[i] ^ (window[i + 1837] ^ window[i + 2091]));
-        i += 1;
-    }
-}
-
-// Moves a window on by n bytes.
-fn slide(window: &mut [u8], reach: usize, n: usize)
-    requires { ⌜ reach + n ≤ length (now window) ⌝ }
-    ensures { λ _. ⌜ (length (now (window .exit)) ≡ length (now (window .entry))) × (take reach (now (window .exit)) ≡ take reach (drop n (now (window .entry)))) ⌝ }
-{
-    let mut i = 0;
-    while i < reach {
-        window[i] = window[i + n];
-        i += 1;
-    }
-}
-
-// Clears what stands behind the last bytes that were taken out, as far as the bytes left look.
-fn clear(window: &mut [u8], reach: usize, end: usize)
-    requires { ⌜ (reach ≤ end) × (end ≤ length (now window)) ⌝ }
-    ensures { λ _. ⌜ (length (now (window .exit)) ≡ length (now (window .entry))) × (take reach (now (window .exit)) ≡ take reach (now (window .entry))) × Clear reach (now (window .exit)) end ⌝ }
-{
-    let mut i = reach;
-    while i < end {
-        window[i] = 0;
+        out[i] = out[i] ^ s[i];
         i += 1;
     }
 }
 
 // The bytes left, from an offset on, with what those taken out leave at them.
-fn far_merge(window: &[u8], s: &[u8], at: usize) -> [u8; FAR_LEFT]
-    requires { ⌜ (length (now window) ≡ 12210) × (at + 4032 ≤ length (now s)) × Clear 4018 (now window) 6123 ⌝ }
-    ensures { λ r. ⌜ r ≡ merged far 4032 (take 4018 (now (window .entry))) (drop at (now (s .entry))) ⌝ }
+fn merge(ring: &[u8], s: &[u8], at: usize) -> [u8; LEFT]
+    requires { ⌜ (length (now ring) ≡ 4018) × (at + 4032 ≤ length (now s)) ⌝ }
+    ensures { λ r. ⌜ r ≡ merged far 4032 (now (ring .entry)) (drop at (now (s .entry))) ⌝ }
 {
-    let mut out = [0u8; FAR_LEFT];
-    let mut i = 0;
-    while i < FAR_LEFT {
-        out[i] = s[at + i] ^ (window[i] ^ (window[i + 1837] ^ window[i + 2091]));
-        i += 1;
-    }
+    let mut out = [0u8; LEFT];
+    wire::copy_at(&mut out, 0, &s[at..at + LEFT]);
+    add(&mut out, &ring[2091..]);
+    add(&mut out, &ring[1837..]);
+    add(&mut out, ring);
     out
 }
 
-// The last bytes of an input, with a register and all other bytes folded onto them.
-fn far_reduce(c: u32, s: &[u8]) -> [u8; FAR_LEFT]
+// The last bytes of an input, with the first register and all other bytes folded onto them. The first round is such that
+// the others are whole.
+fn reduce(s: &[u8]) -> [u8; LEFT]
     requires { ⌜ 4032 ≤ length (now s) ⌝ }
-    ensures { λ r. ⌜ r ≡ reduced far 4018 4032 c (now (s .entry)) ⌝ }
+    ensures { λ r. ⌜ r ≡ reduced far 4018 4032 0xFFFFFFFF (now (s .entry)) ⌝ }
 {
-    let mut window = [0u8; FAR_WINDOW];
-    wire::put_u32(&mut window, 0, c);
-    let end = s.len() - FAR_LEFT;
-    let mut at = 0;
+    let end = s.len() - LEFT;
+    let first = end % REACH;
+    let mut ring = first_ring(REACH - first);
+    fold_round(&mut ring, REACH - first, s, 0);
+    let mut at = first;
     while at < end {
-        let n = least(end - at, FAR_CHUNK);
-        far_chunk(&mut window, s, at, n);
-        slide(&mut window, FAR, n);
-        at += n;
+        fold_round(&mut ring, 0, s, at);
+        at += REACH;
     }
-    clear(&mut window, FAR, FAR_LOOK);
-    far_merge(&window, s, end)
+    merge(&ring, s, end)
 }
 
 pub fn checksum(s: &[u8]) -> u32
     ensures { λ r. ⌜ r ≡ crc32 (now (s .entry)) ⌝ }
 {
-    if s.len() < 8192 {
+    if s.len() < 24576 {
         return crc32_fold::after(0xFFFF_FFFF, s) ^ 0xFFFF_FFFF;
     }
-    let rest = far_reduce(0xFFFF_FFFF, s);
+    let rest = reduce(s);
     crc32_fold::after(0, &rest) ^ 0xFFFF_FFFF
 }
