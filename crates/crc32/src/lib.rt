@@ -131,7 +131,7 @@ fn reduce(s: &[u8]) -> [u8; LEFT]
 pub fn checksum(s: &[u8]) -> u32
     ensures { λ r. ⌜ r ≡ crc32 (now (s .entry)) ⌝ }
 {
-    if s.len() < 24576 {
+    if s.len() < 28672 {
         return crc32_fold::after(0xFFFF_FFFF, s) ^ 0xFFFF_FFFF;
     }
     let rest = reduce(s);

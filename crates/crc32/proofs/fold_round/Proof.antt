@@ -1,6 +1,5 @@
 -- `crc32::fold_round` meets its contract. Assumes nothing.
 use mathlib.Core.Path.{refl}
-use native.Mathlib.Omega.{arith}
 use Rattle.crc32.proofs.Ring.{round-parts}
 use borrow.Author.Needs.{needs}
 use Rattle.crc32.proofs.fold_round.Statement.{statement}

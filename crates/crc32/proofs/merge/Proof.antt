@@ -1,10 +1,10 @@
 -- `crc32::merge` meets its contract. Assumes nothing.
-use mathlib.Core.Path.{_≡_, ap, ap₂, _∙_}
+use mathlib.Core.Path.{ap, ap₂, _∙_}
 use mathlib.Core.List.{List}
-use Prim.Native.Nat.{ℕ, _+_, _-_, _≤_}
+use Prim.Native.Nat.{ℕ, _+_, _-_}
 use native.Mathlib.Nat.{add-sub-cancel-left}
 use native.Mathlib.Omega.{arith}
-use lib.ListN.{length, take, drop, replicate, length-drop, length-replicate}
+use lib.ListN.{take, drop, replicate, length-drop}
 use Rattle.crc32_fold.proofs.Merge.{length-part, last-part}
 use Rattle.crc32.specs.Inner.{added}
 use Rattle.crc32.proofs.Ring.{merged-far, splice-whole}

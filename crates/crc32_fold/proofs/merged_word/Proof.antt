@@ -1,7 +1,6 @@
 -- `crc32_fold::merged_word` meets its contract. Assumes nothing.
 use mathlib.Core.Path.{ap₂, _∙_}
 use lib.Bits.{bitXor}
-use Prim.Native.Nat.{ℕ}
 use Rattle.crc32_fold.proofs.Merge.{near-wide}
 use borrow.Author.Needs.{needs}
 use Rattle.crc32_fold.proofs.merged_word.Statement.{statement}
