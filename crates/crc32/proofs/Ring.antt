@@ -7,8 +7,10 @@ use native.Mathlib.Numerals.{add-one}
 use native.Mathlib.Decide.{decLe}
 use native.Mathlib.Omega.{arith}
 use lib.Dec.{lit<}
-use lib.ListN.{length, getD, take, drop, set, replicate, length-append, length-take, length-drop, length-set, length-replicate, List·getD-append, List·getD-eq-default}
-use lib.Seq.{getD-take, getD-drop, getD-append-add, drop-set-lt, drop-set-add, take-set-le, take-set-lt, take-suc-set, set-append-left, drop-append-le, drop-drop, take-all, ext-getD}
+use lib.ListN.{length, getD, take, drop, set, replicate, length-append, length-take, length-drop, length-set}
+use lib.ListN.{length-replicate, List·getD-append, List·getD-eq-default}
+use lib.Seq.{getD-take, getD-drop, getD-append-add, drop-set-lt, drop-set-add, take-set-le, take-set-lt, take-suc-set}
+use lib.Seq.{set-append-left, drop-append-le, drop-drop, take-all, ext-getD}
 use lib.Bits.{bitXor, xor-comm, xor-zero-r}
 use Rattle.wire.specs.Wire.{splice, le}
 use Rattle.crc32_fold.specs.Fold.{carry, folded, merged, initial}
@@ -63,9 +65,11 @@ from-end w h = ap₂ (λ (x y : List ℕ). x ++ y) (none 4018 w (omega arith)) (
 
 set-behind : (xs ys : List ℕ) (n v : ℕ) → set (xs ++ ys) (length xs + n) v ≡ xs ++ set ys n v
 set-behind [] ys n v = let e : 0 + n ≡ n = omega arith in rw e
-set-behind (x ∷ xs) ys n v = let e : suc (length xs) + n ≡ suc (length xs + n) = omega arith in rw e (ap (λ (l : List ℕ). x ∷ l) (set-behind xs ys n v))
+set-behind (x ∷ xs) ys n v = let e : suc (length xs) + n ≡ suc (length xs + n) = omega arith in rw e
+    (ap (λ (l : List ℕ). x ∷ l) (set-behind xs ys n v))
 
-from-set : (i k v : ℕ) (w : List ℕ) → length w ≡ 4018 → i ≤ 4018 → k < 4018 → from i (set w ((i + k) % 4018) v) ≡ set (from i w) k v
+from-set : (i k v : ℕ) (w : List ℕ) → length w ≡ 4018 → i ≤ 4018 → k < 4018
+    → from i (set w ((i + k) % 4018) v) ≡ set (from i w) k v
 unfolding from
 from-set i k v w h l m =
     elim (decLe 4018 (i + k)) [
@@ -95,11 +99,13 @@ from-zeros i l =
     ext-getD 0 (from i w) w (length-from i w)
     (λ k h. elim (decLe 4018 (i + k)) [
       | no b ↦ behind i k w (omega arith) ∙ zero-at 4018 (i + k) ∙ sym (zero-at 4018 k)
-      | yes b ↦ around i k (i + k - 4018) w (omega arith) (omega (arith, length-from i w)) (omega arith) ∙ zero-at 4018 (i + k - 4018) ∙ sym (zero-at 4018 k)
+      | yes b ↦ around i k (i + k - 4018) w (omega arith) (omega (arith, length-from i w)) (omega arith)
+          ∙ zero-at 4018 (i + k - 4018) ∙ sym (zero-at 4018 k)
     ])
 
 pub first-ring : (i : ℕ) → i ≤ 4018
-    → from i (set (set (set (set (replicate 4018 0) (i % 4018) 255) ((i + 1) % 4018) 255) ((i + 2) % 4018) 255) ((i + 3) % 4018) 255) ≡ initial 4018 0xFFFFFFFF
+    → from i (set (set (set (set (replicate 4018 0) (i % 4018) 255) ((i + 1) % 4018) 255) ((i + 2) % 4018) 255)
+    ((i + 3) % 4018) 255) ≡ initial 4018 0xFFFFFFFF
 unfolding le
 first-ring i l =
     let w₀ : List ℕ = replicate 4018 0 in
@@ -111,7 +117,8 @@ first-ring i l =
     let n₂ : length w₂ ≡ 4018 = length-set w₁ ((i + 1) % 4018) 255 ∙ n₁ in
     let n₃ : length w₃ ≡ 4018 = length-set w₂ ((i + 2) % 4018) 255 ∙ n₂ in
     let first : from i w₁ ≡ set (replicate 4018 0) 0 255 =
-    ap (λ (k : ℕ). from i (set w₀ (k % 4018) 255)) (sym (add-zero i)) ∙ from-set i 0 255 w₀ n₀ l (lit< tt) ∙ ap (λ (x : List ℕ). set x 0 255) (from-zeros i l) in
+    ap (λ (k : ℕ). from i (set w₀ (k % 4018) 255)) (sym (add-zero i)) ∙ from-set i 0 255 w₀ n₀ l (lit< tt)
+    ∙ ap (λ (x : List ℕ). set x 0 255) (from-zeros i l) in
     from-set i 3 255 w₃ n₃ l (lit< tt)
     ∙ ap (λ (x : List ℕ). set x 3 255) (from-set i 2 255 w₂ n₂ l (lit< tt)
     ∙ ap (λ (x : List ℕ). set x 2 255) (from-set i 1 255 w₁ n₁ l (lit< tt) ∙ ap (λ (x : List ℕ). set x 1 255) first))
@@ -119,21 +126,26 @@ first-ring i l =
 -- ---- a byte more is taken out
 
 module _ (w : List ℕ) (k : ℕ) (size : length w ≡ 4018) where
-  pub carry-first : k < 1927 → bitXor (getD w k 0) (bitXor (getD w (k + 1837) 0) (getD w (k + 2091) 0)) ≡ carry far (from k w)
+  pub carry-first : k < 1927 → bitXor (getD w k 0) (bitXor (getD w (k + 1837) 0) (getD w (k + 2091) 0)) ≡ carry far
+      (from k w)
   unfolding carry
   carry-first h =
       sym
       (ap₂ bitXor (behind k 0 w (omega arith) ∙ ap (λ (j : ℕ). getD w j 0) (add-zero k))
-      (ap₂ bitXor (behind k 1837 w (omega arith)) (xor-zero-r (getD (from k w) 2091 0) ∙ behind k 2091 w (omega arith))))
+      (ap₂ bitXor (behind k 1837 w (omega arith)) (xor-zero-r (getD (from k w) 2091 0)
+      ∙ behind k 2091 w (omega arith))))
 
-  pub carry-second : 1927 ≤ k → k < 2181 → bitXor (getD w k 0) (bitXor (getD w (k + 1837) 0) (getD w (k - 1927) 0)) ≡ carry far (from k w)
+  pub carry-second : 1927 ≤ k → k < 2181 → bitXor (getD w k 0)
+      (bitXor (getD w (k + 1837) 0) (getD w (k - 1927) 0)) ≡ carry far (from k w)
   unfolding carry
   carry-second l h =
       sym
       (ap₂ bitXor (behind k 0 w (omega arith) ∙ ap (λ (j : ℕ). getD w j 0) (add-zero k))
-      (ap₂ bitXor (behind k 1837 w (omega arith)) (xor-zero-r (getD (from k w) 2091 0) ∙ around k 2091 (k - 1927) w (omega arith) (omega arith) (omega arith))))
+      (ap₂ bitXor (behind k 1837 w (omega arith)) (xor-zero-r (getD (from k w) 2091 0)
+      ∙ around k 2091 (k - 1927) w (omega arith) (omega arith) (omega arith))))
 
-  pub carry-third : 2181 ≤ k → k < 4018 → bitXor (getD w k 0) (bitXor (getD w (k - 2181) 0) (getD w (k - 1927) 0)) ≡ carry far (from k w)
+  pub carry-third : 2181 ≤ k → k < 4018 → bitXor (getD w k 0)
+      (bitXor (getD w (k - 2181) 0) (getD w (k - 1927) 0)) ≡ carry far (from k w)
   unfolding carry
   carry-third l h =
       sym
@@ -157,7 +169,8 @@ ring-turn n k i at x w s h l m e =
     ∙ ap (λ (y : ℕ). folded far (n - (k + 1)) (drop 1 (from k w) ++ (y ∷ [])) (drop 1 (drop p s))) same)
 
 -- behind the last
-pub ring-end : (n k i : ℕ) (w s all : List ℕ) → n ≤ k → k ≡ i + (n - i) → folded far (n - k) (from k w) s ≡ all → from (i + (n - i)) w ≡ all
+pub ring-end : (n k i : ℕ) (w s all : List ℕ) → n ≤ k → k ≡ i + (n - i) → folded far (n - k) (from k w) s ≡ all
+    → from (i + (n - i)) w ≡ all
 unfolding folded
 ring-end n k i w s all h e inv =
     let z : n - k ≡ 0 = omega arith in
@@ -198,7 +211,8 @@ round-parts i x y at b d w w₁ w₂ w₃ s h ex ey eb ed size f g k =
     ap (λ (j : ℕ). from j w₂) e₂ ∙ g
     ∙ part-turn (1927 - i) (2181 - x) t at b (from i w) (from x w₁) s refl (reads i (1927 - i) x at b ex eb) one in
     sym (from-end w₃ size) ∙ ap (λ (j : ℕ). from j w₃) e₃ ∙ k
-    ∙ part-turn t (4018 - y) (4018 - i) at d (from i w) (from y w₂) s (lasts i t y 4018 et low) (reads i t y at d et ed) two
+    ∙ part-turn t (4018 - y) (4018 - i) at d (from i w) (from y w₂) s (lasts i t y 4018 et low)
+    (reads i t y at d et ed) two
 
 -- ---- merging
 
@@ -217,14 +231,17 @@ getD-added (x ∷ xs) (y ∷ ys) zero h = refl
 getD-added (x ∷ xs) (y ∷ ys) (suc k) h = getD-added xs ys k (omega (arith, h))
 
 -- a byte more is added, where those from i on are as they were
-module _ (l₀ l s : List ℕ) (i : ℕ) (same : drop i l ≡ drop i l₀) (made : (k : ℕ) → k < i → getD l k 0 ≡ bitXor (getD l₀ k 0) (getD s k 0)) where
+module _ (l₀ l s : List ℕ) (i : ℕ) (same : drop i l ≡ drop i l₀)
+    (made : (k : ℕ) → k < i → getD l k 0 ≡ bitXor (getD l₀ k 0) (getD s k 0)) where
   as-it-was : (k : ℕ) → i ≤ k → getD l k 0 ≡ getD l₀ k 0
   as-it-was k h =
       let e : k ≡ i + (k - i) = omega arith in
-      ap (λ (j : ℕ). getD l j 0) e ∙ sym (getD-drop i l (k - i) 0) ∙ ap (λ (x : List ℕ). getD x (k - i) 0) same ∙ getD-drop i l₀ (k - i) 0
+      ap (λ (j : ℕ). getD l j 0) e ∙ sym (getD-drop i l (k - i) 0) ∙ ap (λ (x : List ℕ). getD x (k - i) 0) same
+      ∙ getD-drop i l₀ (k - i) 0
       ∙ ap (λ (j : ℕ). getD l₀ j 0) (sym e)
 
-  pub add-turn : i < length l → (k : ℕ) → k < i + 1 → getD (set l i (bitXor (getD l i 0) (getD s i 0))) k 0 ≡ bitXor (getD l₀ k 0) (getD s k 0)
+  pub add-turn : i < length l → (k : ℕ) → k < i + 1 → getD (set l i (bitXor (getD l i 0) (getD s i 0))) k 0 ≡ bitXor
+      (getD l₀ k 0) (getD s k 0)
   add-turn h =
       made-more (λ (k : ℕ). bitXor (getD l₀ k 0) (getD s k 0)) l i (bitXor (getD l i 0) (getD s i 0)) h
       (ap (λ (x : ℕ). bitXor x (getD s i 0)) (as-it-was i (omega arith))) made
@@ -233,12 +250,13 @@ module _ (l₀ l s : List ℕ) (i : ℕ) (same : drop i l ≡ drop i l₀) (made
   add-end size end =
       ext-getD 0 l (added l₀ s) (size ∙ sym (length-added l₀ s))
       (λ k h.
-        elim (decLe i k) [
-          | no b ↦ made k (omega arith) ∙ sym (getD-added l₀ s k (omega arith))
-          | yes b ↦
-              (let none : getD s k 0 ≡ 0 = List·getD-eq-default s 0 (omega arith) in
-              as-it-was k b ∙ sym (getD-added l₀ s k (omega arith) ∙ ap (bitXor (getD l₀ k 0)) none ∙ xor-zero-r (getD l₀ k 0)))
-        ])
+      elim (decLe i k) [
+        | no b ↦ made k (omega arith) ∙ sym (getD-added l₀ s k (omega arith))
+        | yes b ↦
+            (let none : getD s k 0 ≡ 0 = List·getD-eq-default s 0 (omega arith) in
+            as-it-was k b ∙ sym (getD-added l₀ s k (omega arith) ∙ ap (bitXor (getD l₀ k 0)) none
+            ∙ xor-zero-r (getD l₀ k 0)))
+      ])
 
 -- what the bytes taken out leave, place by place
 merged-add : (p : ℕ) (ps h s : List ℕ) (n : ℕ) → merged (p ∷ ps) n h s ≡ added (merged ps n h s) (drop p h)
@@ -246,33 +264,37 @@ unfolding carry
 merged-add p ps h s n =
     let m = merged ps n h s in
     let size = length-merged ps n h s in
-    ext-getD 0 (merged (p ∷ ps) n h s) (added m (drop p h)) (length-merged (p ∷ ps) n h s ∙ sym (length-added m (drop p h) ∙ size))
+    ext-getD 0 (merged (p ∷ ps) n h s) (added m (drop p h)) (length-merged (p ∷ ps) n h s
+    ∙ sym (length-added m (drop p h) ∙ size))
     (λ k l.
-      let inside : k < n = omega (arith, length-merged (p ∷ ps) n h s) in
-      let b : getD (drop k h) p 0 ≡ getD (drop p h) k 0 =
-      getD-drop k h p 0 ∙ ap (λ (j : ℕ). getD h j 0) (add-comm k p) ∙ sym (getD-drop p h k 0) in
-      let c = carry ps (drop k h) in
-      getD-merged (p ∷ ps) n h s k inside
-      ∙ ap (λ (x : ℕ). bitXor (getD s k 0) (bitXor x c)) b
-      ∙ ap (bitXor (getD s k 0)) (xor-comm (getD (drop p h) k 0) c)
-      ∙ sym (xor-assoc (getD s k 0) c (getD (drop p h) k 0))
-      ∙ sym (getD-added m (drop p h) k (omega arith) ∙ ap (λ (x : ℕ). bitXor x (getD (drop p h) k 0)) (getD-merged ps n h s k inside)))
+    let inside : k < n = omega (arith, length-merged (p ∷ ps) n h s) in
+    let b : getD (drop k h) p 0 ≡ getD (drop p h) k 0 =
+    getD-drop k h p 0 ∙ ap (λ (j : ℕ). getD h j 0) (add-comm k p) ∙ sym (getD-drop p h k 0) in
+    let c = carry ps (drop k h) in
+    getD-merged (p ∷ ps) n h s k inside
+    ∙ ap (λ (x : ℕ). bitXor (getD s k 0) (bitXor x c)) b
+    ∙ ap (bitXor (getD s k 0)) (xor-comm (getD (drop p h) k 0) c)
+    ∙ sym (xor-assoc (getD s k 0) c (getD (drop p h) k 0))
+    ∙ sym (getD-added m (drop p h) k (omega arith) ∙ ap (λ (x : ℕ). bitXor x (getD (drop p h) k 0))
+    (getD-merged ps n h s k inside)))
 
 merged-none : (n : ℕ) (h s : List ℕ) → n ≤ length s → merged [] n h s ≡ take n s
 unfolding carry
 merged-none n h s l =
     ext-getD 0 (merged [] n h s) (take n s) (length-merged [] n h s ∙ sym (omega (arith, length-take n s)))
     (λ k m.
-      let inside : k < n = omega (arith, length-merged [] n h s) in
-      getD-merged [] n h s k inside ∙ xor-zero-r (getD s k 0) ∙ sym (getD-take n s k 0 inside))
+    let inside : k < n = omega (arith, length-merged [] n h s) in
+    getD-merged [] n h s k inside ∙ xor-zero-r (getD s k 0) ∙ sym (getD-take n s k 0 inside))
 
-pub merged-far : (w t : List ℕ) → 4032 ≤ length t → added (added (added (take 4032 t) (drop 2091 w)) (drop 1837 w)) w ≡ merged far 4032 w t
+pub merged-far : (w t : List ℕ) → 4032 ≤ length t → added (added (added (take 4032 t) (drop 2091 w)) (drop 1837 w))
+    w ≡ merged far 4032 w t
 merged-far w t h =
     sym
     (merged-add 0 (1837 ∷ 2091 ∷ []) w t 4032
     ∙ ap (λ (x : List ℕ). added x w)
     (merged-add 1837 (2091 ∷ []) w t 4032
-    ∙ ap (λ (x : List ℕ). added x (drop 1837 w)) (merged-add 2091 [] w t 4032 ∙ ap (λ (x : List ℕ). added x (drop 2091 w)) (merged-none 4032 w t h))))
+    ∙ ap (λ (x : List ℕ). added x (drop 1837 w)) (merged-add 2091 [] w t 4032
+    ∙ ap (λ (x : List ℕ). added x (drop 2091 w)) (merged-none 4032 w t h))))
 
 pub splice-whole : (l xs : List ℕ) → length xs ≡ length l → splice l 0 xs ≡ xs
 unfolding splice

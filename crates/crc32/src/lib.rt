@@ -1,5 +1,5 @@
-// CRC-32 of ITU-T V.42, without tables: a long input is folded onto its last 4,032 bytes, through a ring of the last 4,018
-// that were taken out.
+// CRC-32 of ITU-T V.42, without tables: a long input is folded onto its last 4,032 bytes, through a ring of the last
+// 4,018 that were taken out.
 ghost use mathlib.Core.Path.{_≡_};
 ghost use Prim.Native.Nat.{_+_, _-_, _≤_, min};
 ghost use lib.ListN.{length, drop};
@@ -38,11 +38,15 @@ fn first_ring(at: usize) -> [u8; REACH]
     ring
 }
 
-// Takes bytes out, from an offset on: those that go to the ring's places from i on, up to the end of its first, second or
-// third part. In the first all places that a byte looks at stand behind its own; in the second one does, in the third none.
+// Takes bytes out, from an offset on: those that go to the ring's places from i on, up to the end of its first, second
+// or third part. In the first both other places that a byte is made from stand behind its own, in the second one does,
+// and in the third none.
 fn fold_first(ring: &mut [u8], i: usize, s: &[u8], at: usize)
     requires { ⌜ (length (now ring) ≡ 4018) × (at + (1927 - i) ≤ length (now s)) ⌝ }
-    ensures { λ _. ⌜ (length (now (ring .exit)) ≡ 4018) × (from (i + (1927 - i)) (now (ring .exit)) ≡ folded far (1927 - i) (from i (now (ring .entry))) (drop at (now (s .entry)))) ⌝ }
+    ensures { λ _. ⌜ (
+        let w = now (ring .exit) in
+        let all = folded far (1927 - i) (from i (now (ring .entry))) (drop at (now (s .entry))) in
+        (length w ≡ 4018) × (from (i + (1927 - i)) w ≡ all)) ⌝ }
 {
     let mut k = i;
     while k < 1927 {
@@ -53,7 +57,10 @@ fn fold_first(ring: &mut [u8], i: usize, s: &[u8], at: usize)
 
 fn fold_second(ring: &mut [u8], i: usize, s: &[u8], at: usize)
     requires { ⌜ (length (now ring) ≡ 4018) × (1927 ≤ i) × (at + (2181 - i) ≤ length (now s)) ⌝ }
-    ensures { λ _. ⌜ (length (now (ring .exit)) ≡ 4018) × (from (i + (2181 - i)) (now (ring .exit)) ≡ folded far (2181 - i) (from i (now (ring .entry))) (drop at (now (s .entry)))) ⌝ }
+    ensures { λ _. ⌜ (
+        let w = now (ring .exit) in
+        let all = folded far (2181 - i) (from i (now (ring .entry))) (drop at (now (s .entry))) in
+        (length w ≡ 4018) × (from (i + (2181 - i)) w ≡ all)) ⌝ }
 {
     let mut k = i;
     while k < 2181 {
@@ -64,7 +71,10 @@ fn fold_second(ring: &mut [u8], i: usize, s: &[u8], at: usize)
 
 fn fold_third(ring: &mut [u8], i: usize, s: &[u8], at: usize)
     requires { ⌜ (length (now ring) ≡ 4018) × (2181 ≤ i) × (at + (4018 - i) ≤ length (now s)) ⌝ }
-    ensures { λ _. ⌜ (length (now (ring .exit)) ≡ 4018) × (from (i + (4018 - i)) (now (ring .exit)) ≡ folded far (4018 - i) (from i (now (ring .entry))) (drop at (now (s .entry)))) ⌝ }
+    ensures { λ _. ⌜ (
+        let w = now (ring .exit) in
+        let all = folded far (4018 - i) (from i (now (ring .entry))) (drop at (now (s .entry))) in
+        (length w ≡ 4018) × (from (i + (4018 - i)) w ≡ all)) ⌝ }
 {
     let mut k = i;
     while k < 4018 {
@@ -76,7 +86,9 @@ fn fold_third(ring: &mut [u8], i: usize, s: &[u8], at: usize)
 // Takes bytes out up to the ring's end.
 fn fold_round(ring: &mut [u8], i: usize, s: &[u8], at: usize)
     requires { ⌜ (length (now ring) ≡ 4018) × (i ≤ 4018) × (at + (4018 - i) ≤ length (now s)) ⌝ }
-    ensures { λ _. ⌜ (length (now (ring .exit)) ≡ 4018) × (now (ring .exit) ≡ folded far (4018 - i) (from i (now (ring .entry))) (drop at (now (s .entry)))) ⌝ }
+    ensures { λ _. ⌜ (
+        let w = now (ring .exit) in
+        (length w ≡ 4018) × (w ≡ folded far (4018 - i) (from i (now (ring .entry))) (drop at (now (s .entry))))) ⌝ }
 {
     let second = most(i, 1927);
     let third = most(i, 2181);
@@ -110,8 +122,8 @@ fn merge(ring: &[u8], s: &[u8], at: usize) -> [u8; LEFT]
     out
 }
 
-// The last bytes of an input, with the first register and all other bytes folded onto them. The first round is such that
-// the others are whole.
+// The last bytes of an input, with the first register and all other bytes folded onto them. The first round is such
+// that the others are whole.
 fn reduce(s: &[u8]) -> [u8; LEFT]
     requires { ⌜ 4032 ≤ length (now s) ⌝ }
     ensures { λ r. ⌜ r ≡ reduced far 4018 4032 0xFFFFFFFF (now (s .entry)) ⌝ }
@@ -128,6 +140,7 @@ fn reduce(s: &[u8]) -> [u8; LEFT]
     merge(&ring, s, end)
 }
 
+// The checksum. Through the ring it's faster from 28 KiB on: below, what the ring leaves costs more than it saves.
 pub fn checksum(s: &[u8]) -> u32
     ensures { λ r. ⌜ r ≡ crc32 (now (s .entry)) ⌝ }
 {

@@ -27,7 +27,8 @@ along-byte [] w i b = lit< tt
 along-byte (p ∷ ps) w i b = xor-lt 8 (getD w (i + p) 0) (along ps w i) (b (i + p)) (along-byte ps w i b)
 
 -- a byte more
-wide-suc : (n : ℕ) (ps w : List ℕ) (i : ℕ) → Bytes w → wideAlong (suc n) ps w i ≡ wideAlong n ps w (i + 1) * 2 ^ 8 + along ps w i
+wide-suc : (n : ℕ) (ps w : List ℕ) (i : ℕ) → Bytes w → wideAlong (suc n) ps w i ≡ wideAlong n ps w
+    (i + 1) * 2 ^ 8 + along ps w i
 unfolding wideAlong along
 wide-suc n [] w i b = refl
 wide-suc n (p ∷ ps) w i b =
@@ -35,7 +36,8 @@ wide-suc n (p ∷ ps) w i b =
     let one : leAt (suc n) w (i + p) ≡ leAt n w (i + 1 + p) * 2 ^ 8 + getD w (i + p) 0 =
     leAt-suc n w (i + p) ∙ ap (λ (k : ℕ). getD w (i + p) 0 + 256 * leAt n w k) e ∙ omega arith in
     ap₂ bitXor one (wide-suc n ps w i b)
-    ∙ xor-block 8 (leAt n w (i + 1 + p)) (wideAlong n ps w (i + 1)) (getD w (i + p) 0) (along ps w i) (b (i + p)) (along-byte ps w i b)
+    ∙ xor-block 8 (leAt n w (i + 1 + p)) (wideAlong n ps w (i + 1)) (getD w (i + p) 0) (along ps w i) (b (i + p))
+    (along-byte ps w i b)
 
 -- n bytes at once, where each is the sum of one of s and of those of w
 module _ (ps w s m : List ℕ) (bw : Bytes w) (bs : Bytes s) where
@@ -49,7 +51,8 @@ module _ (ps w s m : List ℕ) (bw : Bytes w) (bs : Bytes s) where
       let rest = wide-merged n (i + 1) step in
       let low : leAt (suc n) s i ≡ leAt n s (i + 1) * 2 ^ 8 + getD s i 0 = leAt-suc n s i ∙ omega arith in
       leAt-suc n m i ∙ ap₂ (λ (x y : ℕ). x + 256 * y) first rest ∙ omega arith
-      ∙ sym (xor-block 8 (leAt n s (i + 1)) (wideAlong n ps w (i + 1)) (getD s i 0) (along ps w i) (bs i) (along-byte ps w i bw))
+      ∙ sym (xor-block 8 (leAt n s (i + 1)) (wideAlong n ps w (i + 1)) (getD s i 0) (along ps w i) (bs i)
+      (along-byte ps w i bw))
       ∙ sym (ap₂ bitXor low (wide-suc n ps w i bw))
 
 -- eight of the bytes left
@@ -58,10 +61,12 @@ pub merged-at : (w s : List ℕ) (i : ℕ) → Clear 300 w 459 → Bytes w → B
 unfolding byteAt
 merged-at w s i clear bw bs h =
     wide-merged near w s (merged near 304 (take 300 w) s) bw bs 8 i
-    (λ k l. rw zero-add at (sym (merge-byte 300 w (i + k) 156 (λ j low m. clear j low (omega arith)) near s 0 304 (omega arith) near-look)))
+    (λ k l. rw zero-add at (sym (merge-byte 300 w (i + k) 156 (λ j low m. clear j low (omega arith)) near s 0 304
+    (omega arith) near-look)))
 
 pub near-wide : (w : List ℕ) (i : ℕ)
-    → bitXor (leAt 8 w i) (bitXor (leAt 8 w (i + 89)) (bitXor (leAt 8 w (i + 117)) (leAt 8 w (i + 155)))) ≡ wideAlong 8 near w i
+    → bitXor (leAt 8 w i) (bitXor (leAt 8 w (i + 89)) (bitXor (leAt 8 w (i + 117)) (leAt 8 w (i + 155)))) ≡
+    wideAlong 8 near w i
 unfolding wideAlong
 near-wide w i = rw (add-zero i, xor-zero-r (leAt 8 w (i + 155)))
 
@@ -69,13 +74,15 @@ near-wide w i = rw (add-zero i, xor-zero-r (leAt 8 w (i + 155)))
 pub window-kept : (w w′ : List ℕ) (n : ℕ) → take (n + 300) w′ ≡ take (n + 300) w
     → take 300 (take (n + 459 - n) (drop n w′)) ≡ take 300 (drop n w)
 window-kept w w′ n e =
-    ap (λ (k : ℕ). take 300 (take k (drop n w′))) (add-sub-cancel-left n 459) ∙ take-within 300 459 (drop n w′) (omega arith)
+    ap (λ (k : ℕ). take 300 (take k (drop n w′))) (add-sub-cancel-left n 459)
+    ∙ take-within 300 459 (drop n w′) (omega arith)
     ∙ ap (λ (k : ℕ). take k (drop n w′)) (sym (add-sub-cancel-left n 300)) ∙ sym (drop-take n (n + 300) w′)
     ∙ ap (drop n) e ∙ drop-take n (n + 300) w ∙ ap (λ (k : ℕ). take k (drop n w)) (add-sub-cancel-left n 300)
 
 pub window-clear : (w : List ℕ) (n : ℕ) → Clear (n + 300) w (n + 459) → Clear 300 (take (n + 459 - n) (drop n w)) 459
 window-clear w n clear k low h =
-    ap (λ (m : ℕ). getD (take m (drop n w)) k 0) (add-sub-cancel-left n 459) ∙ getD-take 459 (drop n w) k 0 h ∙ getD-drop n w k 0
+    ap (λ (m : ℕ). getD (take m (drop n w)) k 0) (add-sub-cancel-left n 459) ∙ getD-take 459 (drop n w) k 0 h
+    ∙ getD-drop n w k 0
     ∙ clear (n + k) (omega arith) (omega arith)
 
 -- parts of a list: n bytes from a place on, and the last n

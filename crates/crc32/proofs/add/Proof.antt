@@ -13,7 +13,8 @@ use Rattle.crc32.proofs.add.Tie as tie
 -- the bytes before i are sums, and those from i on are as they were
 abbrev Inv-loop : tie.InvT-loop
 Inv-loop out₀ s n i₀ out i =
-    (i ≤ n) × (length out ≡ length out₀) × (drop i out ≡ drop i out₀) × ((k : ℕ) → k < i → getD out k 0 ≡ bitXor (getD out₀ k 0) (getD s k 0))
+    (i ≤ n) × (length out ≡ length out₀) × (drop i out ≡ drop i out₀) ×
+    ((k : ℕ) → k < i → getD out k 0 ≡ bitXor (getD out₀ k 0) (getD s k 0))
 
 abbrev μ-loop : tie.MeasureT-loop
 μ-loop out₀ s n i₀ out i = n - i

@@ -33,14 +33,18 @@ loop-again c =
       search needs,
       omega arith,
       simp length-set (l .inv .2),
-      ring-turn 1927 (l .k) (a .i) (a .at) _ (l .ring) (a .s .now) (omega arith) (omega arith) (l .inv .0) (carry-first (l .ring) (l .k) (l .inv .2) (omega arith)) ∙ l .inv .3,
+      ring-turn 1927 (l .k) (a .i) (a .at) _ (l .ring) (a .s .now) (omega arith) (omega arith) (l .inv .0)
+          (carry-first (l .ring) (l .k) (l .inv .2) (omega arith)) ∙ l .inv .3,
     )
 
 returns : tie.Need-returns Inv-loop μ-loop
 returns c =
     let l = c .before .loop in
-    let a = c .before .before .args in
-    (l .inv .2, ring-end 1927 (l .k) (a .i) (l .ring) (drop (a .at + (l .k - a .i)) (a .s .now)) _ (omega arith) (omega arith) (l .inv .3))
+    let a = c .before .before .args in (
+      l .inv .2,
+      ring-end 1927 (l .k) (a .i) (l .ring) (drop (a .at + (l .k - a .i)) (a .s .now)) _ (omega arith)
+          (omega arith) (l .inv .3),
+    )
 
 pub fold-first-spec : {M : Type 1} → statement M
 fold-first-spec =

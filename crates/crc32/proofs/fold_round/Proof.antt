@@ -15,7 +15,8 @@ returns c =
     let a = most .before .before .before .args in
     let done = third .fold-third .ensures in (
       done .0,
-      round-parts (a .i) _ _ (a .at) _ _ (a .ring .now) _ _ _ (a .s .now) (search needs) (most .most .ensures) (most2 .most2 .ensures) refl refl (done .0)
+      round-parts (a .i) _ _ (a .at) _ _ (a .ring .now) _ _ _ (a .s .now) (search needs) (most .most .ensures)
+          (most2 .most2 .ensures) refl refl (done .0)
           (first .fold-first .ensures .1) (second .fold-second .ensures .1) (done .1),
     )
 

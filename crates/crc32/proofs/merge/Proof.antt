@@ -23,7 +23,8 @@ returns c =
     let w = a .ring .now in
     let bytes =
     copied .copy-at .ensures
-    ∙ splice-whole (replicate 4032 0) (take (a .at + 4032 - a .at) (drop (a .at) s)) (length-part s (a .at) 4032 (search needs))
+    ∙ splice-whole (replicate 4032 0) (take (a .at + 4032 - a .at) (drop (a .at) s))
+    (length-part s (a .at) 4032 (search needs))
     ∙ ap (λ (n : ℕ). take n (drop (a .at) s)) (add-sub-cancel-left (a .at) 4032) in
     third .add3 .ensures
     ∙ ap (λ (x : List ℕ). added x w)

@@ -33,7 +33,7 @@ loop-holds c =
       omega arith,
       round .0,
       part-turn first (end - first) end 0 first (initial 4018 0xFFFFFFFF) _ s (omega arith) (omega arith)
-      (round .1 ∙ ap₂ (λ (k : ℕ) (h : List ℕ). folded far k h s) n (made .first-ring .ensures .1)),
+          (round .1 ∙ ap₂ (λ (k : ℕ) (h : List ℕ). folded far k h s) n (made .first-ring .ensures .1)),
     )
 
 loop-again : tie.Need-loop-again Inv-loop μ-loop
@@ -45,7 +45,8 @@ loop-again c =
       omega arith,
       omega arith,
       round .0,
-      chunk-turn far (length s - 4032) (o .at) 4018 (o .ring) _ _ s _ (omega arith) (from-begin (o .ring)) (round .1) (o .inv .3),
+      chunk-turn far (length s - 4032) (o .at) 4018 (o .ring) _ _ s _ (omega arith) (from-begin (o .ring))
+          (round .1) (o .inv .3),
     )
 
 returns : tie.Need-returns Inv-loop μ-loop
@@ -56,7 +57,8 @@ returns c =
     let s = l .before .before .before .before .before .before .args .s .now in
     let end = length s - 4032 in
     c .merge .ensures
-    ∙ ap (λ (h : List ℕ). merged far 4032 h (drop end s)) (sym (fold-end far end (o .at) (o .ring) (drop (o .at) s) (omega arith)) ∙ o .inv .3)
+    ∙ ap (λ (h : List ℕ). merged far 4032 h (drop end s)) (sym
+    (fold-end far end (o .at) (o .ring) (drop (o .at) s) (omega arith)) ∙ o .inv .3)
 
 pub reduce-spec : {M : Type 1} → statement M
 reduce-spec =

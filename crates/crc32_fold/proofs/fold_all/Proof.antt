@@ -46,7 +46,8 @@ loop-again c =
       search needs,
       omega arith,
       chunk .0,
-      chunk-turn near (length s - 304) (o .at) _ (take 300 (drop (o .n) (o .window))) _ _ s _ (search needs) (slid .1) (chunk .1) (o .inv .3),
+      chunk-turn near (length s - 304) (o .at) _ (take 300 (drop (o .n) (o .window))) _ _ s _ (search needs)
+          (slid .1) (chunk .1) (o .inv .3),
     )
 
 merged-words-requires : tie.Need-merged-words-requires Inv-loop μ-loop
@@ -72,7 +73,8 @@ returns c =
     let end = length s - 304 in
     c .merged-words .ensures
     ∙ ap₂ (λ (h t : List ℕ). crcFrom 0 (merged near 304 h t))
-    (window-kept _ _ (o .n) (cleared .clear .ensures .1) ∙ sym (fold-end near end (o .at) (take 300 (drop (o .n) (o .window))) (drop (o .at) s) (search needs)) ∙ o .inv .3)
+    (window-kept _ _ (o .n) (cleared .clear .ensures .1) ∙ sym
+    (fold-end near end (o .at) (take 300 (drop (o .n) (o .window))) (drop (o .at) s) (search needs)) ∙ o .inv .3)
     (last-part s end)
     ∙ near-crc (a .c) s (search needs) (omega arith) (λ i. omega (arith, known .shared-slice-known .given i))
 

@@ -15,7 +15,8 @@ returns c =
     let own = w1 .before in
     let a = own .before .before .before .args in
     ap₂ bitXor (own .load .ensures)
-    (ap₂ bitXor (w1 .load2 .ensures) (ap₂ bitXor (w2 .load3 .ensures) (ap₂ bitXor (w3 .load4 .ensures) (w4 .load5 .ensures))) ∙ near-wide (a .window .now) (a .at))
+    (ap₂ bitXor (w1 .load2 .ensures) (ap₂ bitXor (w2 .load3 .ensures)
+    (ap₂ bitXor (w3 .load4 .ensures) (w4 .load5 .ensures))) ∙ near-wide (a .window .now) (a .at))
 
 pub merged-word-spec : {M : Type 1} → statement M
 merged-word-spec =

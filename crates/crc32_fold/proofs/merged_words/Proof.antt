@@ -54,7 +54,8 @@ eight : (c : tie.At-loop Inv-loop μ-loop) (i : ℕ) → i + 8 ≤ 304 →
 eight c i h =
     let a = c .before .before .before .args in
     sym
-    (merged-at (a .window .now) (a .s .now) i (c .before .before .before .pre .2) (λ k. omega (arith, c .before .before .shared-slice-known .given k))
+    (merged-at (a .window .now) (a .s .now) i (c .before .before .before .pre .2)
+    (λ k. omega (arith, c .before .before .shared-slice-known .given k))
     (λ k. omega (arith, c .before .shared-slice-known2 .given k)) h)
 
 loop-holds : tie.Need-loop-holds Inv-loop μ-loop
@@ -67,7 +68,8 @@ loop-holds c =
       third = lit< tt;
       fourth = lit< tt;
       fifth = lit< tt;
-      same = let a = c .before .before .args in ap (λ (x : ℕ). crcFrom x (merged near 304 (take 300 (a .window .now)) (a .s .now))) (words-one 0);
+      same = let a = c .before .before .args in ap (λ (x : ℕ). crcFrom x
+          (merged near 304 (take 300 (a .window .now)) (a .s .now))) (words-one 0);
     }
 
 loop-again : tie.Need-loop-again Inv-loop μ-loop
@@ -86,8 +88,10 @@ loop-again c =
       fourth = omega arith;
       fifth = omega arith;
       same =
-          fold-more (o .a) (k .result) (o .b) (o .c) (o .d) (o .e) _ _ _ _ m (o .i) (bytes l) (omega arith) (k .ensures ∙ eight l (o .i) (omega arith))
-          (xor-lt 64 (o .a) (k .result) (o .inv .first) (omega arith)) (c .before .before .before .at-second .ensures) (c .before .before .at-third .ensures)
+          fold-more (o .a) (k .result) (o .b) (o .c) (o .d) (o .e) _ _ _ _ m (o .i) (bytes l) (omega arith)
+          (k .ensures ∙ eight l (o .i) (omega arith))
+          (xor-lt 64 (o .a) (k .result) (o .inv .first) (omega arith))
+          (c .before .before .before .at-second .ensures) (c .before .before .at-third .ensures)
           (c .before .at-fourth .ensures) (c .at-fifth .ensures)
           ∙ o .inv .same;
     }
@@ -105,8 +109,10 @@ returns c =
     let size : length m ≡ 304 = length-merged near 304 _ _ in
     let e : o .i ≡ 264 = omega arith in
     none-left (c .last-five .result) m 304 (omega arith)
-    ∙ five-turn (o .a) (o .b) (o .c) (o .d) (o .e) _ _ _ _ _ _ m 264 (bytes l) (omega arith) (w1 .merged-word2 .ensures ∙ eight l 264 (omega arith))
-    (w2 .merged-word3 .ensures ∙ eight l 272 (omega arith)) (w3 .merged-word4 .ensures ∙ eight l 280 (omega arith)) (w4 .merged-word5 .ensures ∙ eight l 288 (omega arith))
+    ∙ five-turn (o .a) (o .b) (o .c) (o .d) (o .e) _ _ _ _ _ _ m 264 (bytes l) (omega arith)
+    (w1 .merged-word2 .ensures ∙ eight l 264 (omega arith))
+    (w2 .merged-word3 .ensures ∙ eight l 272 (omega arith)) (w3 .merged-word4 .ensures ∙ eight l 280 (omega arith))
+    (w4 .merged-word5 .ensures ∙ eight l 288 (omega arith))
     (w5 .merged-word6 .ensures ∙ eight l 296 (omega arith)) (c .last-five .ensures)
     ∙ rw e at (o .inv .same)
 

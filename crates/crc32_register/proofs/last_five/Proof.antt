@@ -17,9 +17,12 @@ returns c =
     let n1 = n2 .before in
     let a = n1 .before .args in
     let second = xor-lt 64 (n1 .at-next .result) (a .b) (omega arith) (omega arith) in
-    let third = xor-lt 64 (n2 .at-next2 .result) _ (omega arith) (xor-lt 64 (m1 .at-behind .result) (a .c) (omega arith) (omega arith)) in
-    five-steps (a .a) (a .b) (a .c) (a .d) (a .e) _ _ _ _ _ _ _ _ (omega arith) second third (n1 .at-next .ensures) (m1 .at-behind .ensures) (n2 .at-next2 .ensures)
-    (m2 .at-behind2 .ensures) (n3 .at-next3 .ensures) (m3 .at-behind3 .ensures) (step .word-step .ensures) (c .word-step2 .ensures)
+    let third = xor-lt 64 (n2 .at-next2 .result) _ (omega arith)
+    (xor-lt 64 (m1 .at-behind .result) (a .c) (omega arith) (omega arith)) in
+    five-steps (a .a) (a .b) (a .c) (a .d) (a .e) _ _ _ _ _ _ _ _ (omega arith) second third (n1 .at-next .ensures)
+    (m1 .at-behind .ensures) (n2 .at-next2 .ensures)
+    (m2 .at-behind2 .ensures) (n3 .at-next3 .ensures) (m3 .at-behind3 .ensures) (step .word-step .ensures)
+    (c .word-step2 .ensures)
 
 pub last-five-spec : {M : Type 1} → statement M
 last-five-spec =
