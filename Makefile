@@ -1,10 +1,11 @@
 # make                     the library target/lib/libhplog.a and the command target/bin/hplog
 # make run                 the samples: listed, checked and recovered
 # make test                the whole gate
-# make bench               each call beside a peer: a table, and a plot in docs/performance.svg
+# make bench               each call beside a peer, and its stack: docs/performance-table.md, and a plot in docs/performance.svg
 # make install PREFIX=..   command, header, library, hplog.pc and manual pages; DESTDIR=.. goes in front
 #
-# HPLOG_LIB=.. links the libhplog.a of that folder and builds none.
+# HPLOG_LIB=.. links the libhplog.a of that folder and builds none. LEVEL=x86-64 compiles the library for x86-64 alone,
+# for a compiler or a C library that can't choose by the processor (levels/levels.c).
 
 PREFIX ?= /usr/local
 CC ?= cc
@@ -24,8 +25,8 @@ endif
 
 all: $(LIBRARY) $(COMMAND)
 
-target/lib/libhplog.a: $(shell find crates -type f 2>/dev/null) crates.txt
-	tools/make-library
+target/lib/libhplog.a: $(shell find crates -type f 2>/dev/null) crates.txt levels/levels.c
+	CC="$(CC)" LEVEL=$(LEVEL) tools/make-library
 
 $(COMMAND): $(OBJECTS) $(LIBRARY)
 	@mkdir -p $(@D)
@@ -42,7 +43,7 @@ test:
 	bash .ci/run
 
 bench: $(LIBRARY)
-	HPLOG_LIB=$(dir $(LIBRARY)) tests/bench docs/performance.svg
+	HPLOG_LIB=$(dir $(LIBRARY)) tests/bench docs/performance.svg docs/performance-table.md
 
 install: all
 	@mkdir -p target

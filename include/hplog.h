@@ -45,6 +45,7 @@ extern "C" {
 #define HPLOG_FIRST_NAME 4    /* where the id of a plain dictionary's first name stands, see hplog_name_at */
 #define HPLOG_BOOK_FIRST 5    /* where the first part of a plain book stands, see hplog_book_part */
 #define HPLOG_PIECE 50        /* an output of so many bytes has room for some of any listing that is left */
+#define HPLOG_STACK 65536     /* no call needs more bytes of stack */
 
 /* What most calls answer. number is 0 where the call was accepted; count is then what the call says, and place is 0 unless it says otherwise.
  * On a refusal count is 0. */

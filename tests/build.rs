@@ -14,13 +14,28 @@ fn archive(source: &str, name: &str) {
     println!("cargo:rerun-if-changed={source}");
 }
 
+/// Whether a header is there, so that its library can be a peer.
+fn installed(header: &str) -> bool {
+    let probe = format!("#include <stddef.h>\n#include <{header}>\n");
+    let file = format!("{}/probe.c", std::env::var("OUT_DIR").expect("cargo says where"));
+    std::fs::write(&file, probe).expect("room for a line");
+    Command::new("gcc").args(["-fsyntax-only", &file]).stderr(std::process::Stdio::null()).status().is_ok_and(|s| s.success())
+}
+
 fn main() {
     println!("cargo:rerun-if-env-changed=HPLOG_LIB");
     if let Ok(directory) = std::env::var("HPLOG_LIB") {
         println!("cargo:rustc-link-search=native={directory}");
         println!("cargo:rerun-if-changed={directory}/libhplog.a");
     }
+    println!("cargo:rustc-check-cfg=cfg(has_libdeflate)");
+    println!("cargo:rustc-check-cfg=cfg(has_isal)");
     if std::env::var_os("CARGO_FEATURE_BENCH").is_some() {
         archive("src/bin/bench/plain.c", "plain");
+        for (header, has) in [("libdeflate.h", "has_libdeflate"), ("isa-l/crc.h", "has_isal")] {
+            if installed(header) {
+                println!("cargo:rustc-cfg={has}");
+            }
+        }
     }
 }

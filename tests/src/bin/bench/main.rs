@@ -1,5 +1,5 @@
-//! Times the library against peers in the same run: zlib's crc32 and memcpy on the same bytes, a plain C loop, and the implementation in Rust.
-//! Prints a table, and writes the ratios as a plot to the file that is named.
+//! Times the library against peers in the same run: the checksums of zlib, libdeflate and ISA-L and memcpy on the same bytes, a plain C loop, and
+//! the implementation in Rust. Prints a table, and writes the ratios as a plot to the file that is named.
 
 #[path = "../../edge.rs"]
 #[allow(dead_code)]
@@ -18,10 +18,15 @@ fn main() {
     files::open_recover_repair(&mut lines);
     files::query(&mut lines);
     files::listing(&mut lines);
+    files::naming(&mut lines);
     writing::dictionary(&mut lines);
+    writing::adding(&mut lines);
     writing::entries(&mut lines);
     writing::blocks(&mut lines);
     measure::table(&lines);
+    for peer in peers::missing() {
+        println!("\nNot installed, so not measured: {peer}.");
+    }
     if let Some(path) = plot {
         std::fs::write(&path, plot::svg(&lines)).unwrap_or_else(|error| panic!("{path}: {error}"));
     }

@@ -9,7 +9,7 @@ use hplog_tests::reference;
 use std::hint::black_box;
 
 pub fn dictionary(lines: &mut Vec<Line>) {
-    for count in [10, 1000, 65_535] {
+    for count in [10, 100, 1000, 10_000, 65_535] {
         let dictionary = make::dictionary(&make::many_names(count));
         assert_eq!(edge::names(&dictionary).count, count as u64);
         let ours = shortest(|| {
@@ -22,19 +22,38 @@ pub fn dictionary(lines: &mut Vec<Line>) {
     }
 }
 
-/// A string, a whole number, a real and a null, as records.
+/// Names added one by one, with a common beginning: each is looked for among those held.
+pub fn adding(lines: &mut Vec<Line>) {
+    for count in [1000usize, 10_000] {
+        let names: Vec<Vec<u8>> = (0..count).map(|i| format!("a beginning that they all have {i:07}").into_bytes()).collect();
+        let mut dictionary = vec![0; 4 + names.iter().map(|name| 4 + name.len()).sum::<usize>()];
+        let begun = reference::begin(reference::writer_new(), &mut [0; 64]).next;
+        let mut fill = |add: &dyn Fn(Writer, &mut [u8], &[u8]) -> Written| {
+            let mut state = begun;
+            for name in &names {
+                state = add(state, &mut dictionary, name).next;
+            }
+            assert_eq!(state.names as usize, count);
+        };
+        let ours = shortest(|| fill(&edge::add_name));
+        let theirs = shortest(|| fill(&reference::add_name));
+        lines.push(Line { call: "add_name", shape: format!("{count} names"), peer: "Rust", ours, theirs });
+    }
+}
+
+/// A field to write.
+pub fn record(id: u16, kind: u8, bits: u64, length: u64) -> [u8; 24] {
+    let mut record = [0; 24];
+    record[..2].copy_from_slice(&id.to_le_bytes());
+    record[2] = kind;
+    record[8..16].copy_from_slice(&bits.to_le_bytes());
+    record[16..].copy_from_slice(&length.to_le_bytes());
+    record
+}
+
+/// A string, a whole number, a real and a null.
 fn four_fields() -> Vec<u8> {
-    [(0u16, 0u8, 0u64, 2u64), (1, 1, 42, 0), (2, 2, 1.5f64.to_bits(), 0), (3, 4, 0, 0)]
-        .into_iter()
-        .flat_map(|(id, kind, bits, length)| {
-            let mut record = vec![0; 24];
-            record[..2].copy_from_slice(&id.to_le_bytes());
-            record[2] = kind;
-            record[8..16].copy_from_slice(&bits.to_le_bytes());
-            record[16..].copy_from_slice(&length.to_le_bytes());
-            record
-        })
-        .collect()
+    [record(0, 0, 0, 2), record(1, 1, 42, 0), record(2, 2, 1.5f64.to_bits(), 0), record(3, 4, 0, 0)].concat()
 }
 
 fn fill(begun: Writer, count: u64, payload: &mut [u8], add: impl Fn(Writer, &mut [u8], u64) -> Written) {
