@@ -1,5 +1,6 @@
 /* Runs every call with the largest inputs on a thread whose stack has HPLOG_STACK bytes, with a page below it that may
- * not be touched, and prints how many of them each call used. The calls must be accepted, so that they run to their end. */
+ * not be touched, and prints how many of them each call used. The calls must be accepted, so that they run to their
+ * end. */
 #define _GNU_SOURCE
 #include "hplog.h"
 
@@ -36,8 +37,12 @@ static void *room(size_t bytes) {
 /* ---- the calls: each says whether it was accepted ---- */
 
 static int run_open(void) { return hplog_open(log_bytes, log_len, rows, sizeof rows, frame, sizeof frame).number == 0; }
-static int run_query(void) { return hplog_query(rows, sizeof rows, 0, UINT64_MAX, numbers, sizeof numbers).number == 0; }
-static int run_recover(void) { return hplog_recover(cut, cut_len, rows, sizeof rows, report, sizeof report).number == 0; }
+static int run_query(void) {
+    return hplog_query(rows, sizeof rows, 0, UINT64_MAX, numbers, sizeof numbers).number == 0;
+}
+static int run_recover(void) {
+    return hplog_recover(cut, cut_len, rows, sizeof rows, report, sizeof report).number == 0;
+}
 static int run_repair(void) { return hplog_repair(cut, cut_len, stored, 1, out, out_len).number == 0; }
 static int run_label(void) { return hplog_label(text, HPLOG_PANEL, panel, sizeof panel).number == 0; }
 static int run_block(void) { return hplog_block(log_bytes, log_len, rows, sizeof rows, HPLOG_BLOCKS - 1).number == 0; }
@@ -99,10 +104,11 @@ static const struct {
     const char *name;
     int (*run)(void);
 } calls[] = {
-    CALL(open),      CALL(query),      CALL(recover),  CALL(repair),     CALL(label),      CALL(block),     CALL(stored),
-    CALL(dictionary), CALL(names),     CALL(name),     CALL(name_at),    CALL(number),     CALL(delta),     CALL(count),
-    CALL(field),     CALL(check_block), CALL(book),    CALL(book_parts), CALL(book_part),  CALL(list),      CALL(list_range),
-    CALL(list_next), CALL(writer_new), CALL(begin),    CALL(add_name),   CALL(add_entry),  CALL(add_block), CALL(close),
+    CALL(open), CALL(query), CALL(recover), CALL(repair), CALL(label), CALL(block), CALL(stored),
+    CALL(dictionary), CALL(names), CALL(name), CALL(name_at), CALL(number), CALL(delta), CALL(count),
+    CALL(field), CALL(check_block), CALL(book), CALL(book_parts), CALL(book_part), CALL(list),
+    CALL(list_range), CALL(list_next), CALL(writer_new), CALL(begin), CALL(add_name), CALL(add_entry),
+    CALL(add_block), CALL(close),
 };
 
 /* ---- what they are lent ---- */
@@ -121,7 +127,7 @@ static void make_names(void) {
     }
 }
 
-/* An entry with as many fields as there may be: texts as long as all others together allow, and a number in each other. */
+/* An entry with as many fields as there may be: a long text first, then numbers and short texts in turn. */
 static void make_entry(void) {
     memset(text, 'x', sizeof text);
     for (unsigned i = 0; i < FIELDS; i++) {
@@ -156,7 +162,8 @@ static void make_log(void) {
         const uint8_t *bytes = i ? one : plain;
         size_t n = i ? sizeof one : plain_len;
         last = r.next;
-        r = hplog_add_block(last, rows, sizeof rows, cut + at, cut_len - at, i, bytes, n, stored, i ? 9 : STORED, NAMES);
+        size_t size = i ? 9 : STORED;
+        r = hplog_add_block(last, rows, sizeof rows, cut + at, cut_len - at, i, bytes, n, stored, size, NAMES);
         at += r.answer.count;
         put(part, n, 4);
         memcpy(part + 4, bytes, n);
