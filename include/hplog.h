@@ -109,7 +109,8 @@ hplog_answer hplog_dictionary(const uint8_t *log, size_t log_len, const uint8_t 
  * an earlier name's; a name's length field where the name runs out of the dictionary). */
 hplog_answer hplog_names(const uint8_t *dictionary, size_t dictionary_len);
 
-/* Finds name i of a plain dictionary; place = the offset of its bytes, count = how many they are. Refusals in order: 10; (14, i). */
+/* Finds name i of a plain dictionary; place = the offset of its bytes, count = how many they are. Each call checks the
+ * dictionary whole: hplog_name_at goes from name to name of one that was checked. Refusals in order: 10; (14, i). */
 hplog_answer hplog_name(const uint8_t *dictionary, size_t dictionary_len, uint64_t i);
 
 /* Finds the bytes of the name whose id stands at an offset, the first at HPLOG_FIRST_NAME; place and count as in
