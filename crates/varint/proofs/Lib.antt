@@ -3,3 +3,4 @@ pub mod Answers
 pub mod Codec
 pub mod Decoding
 pub mod Encoding
+pub mod Lengths

@@ -4,6 +4,7 @@ use mathlib.Core.Bool.{cond}
 use mathlib.Core.List.{List, [], _∷_}
 use Prim.Native.Nat.{ℕ, zero, suc, _+_, _-_, _*_, _/_, _%_}
 use lib.Dec.{leb, ltb}
+use lib.Count.{leadingZeros}
 use lib.ListN.{length}
 
 -- what a list of bytes begins with: a value and how many bytes it took; fewer bytes than the varint has; more than ten bytes or a tenth above 1
@@ -37,6 +38,15 @@ encodeIn (suc k) v = cond (ltb v 128) (v ∷ []) ((128 + v % 128) ∷ encodeIn k
 -- "the writer makes the shortest"
 unfoldable pub encode : ℕ → List ℕ
 encode v = encodeIn 9 v
+
+-- "the bits that remain" of the 64 below the leading zeros (document 02, c)
+unfoldable pub bitLength : ℕ → ℕ
+bitLength v = 64 - leadingZeros 64 v
+
+-- "divided by seven and rounded up, with one byte for zero" (document 02, c): how long `encode v` is (`written-length`)
+unfoldable pub writtenLength : ℕ → ℕ
+writtenLength zero = 1
+writtenLength (suc v) = (bitLength (suc v) + 6) / 7
 
 -- a form of v that takes n bytes is the shortest
 abbrev pub Shortest : ℕ → ℕ → Type 0

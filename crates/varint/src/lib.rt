@@ -72,17 +72,16 @@ fn decode_long(s: &[u8], at: usize, low: u64) -> Decoded
     Decoded::Value(value + tenth * scale, p + 1)
 }
 
-// How many bytes the shortest form takes.
+// How many bytes the shortest form takes: the bits below the leading zeros, divided by seven and rounded up. Zero has
+// no bits and takes a byte; it is answered with the many values that need no division.
 pub fn encoded_len(v: u64) -> usize
     ensures { λ r. ⌜ r ≡ length (encode v) ⌝ }
 {
-    let mut rest = v;
-    let mut n: usize = 1;
-    while 128 <= rest {
-        rest /= 128;
-        n += 1;
+    let bits = 64 - u64::leading_zeros(v) as usize;
+    if bits <= 7 {
+        return 1;
     }
-    n
+    (bits + 6) / 7
 }
 
 // Writes the shortest form from a position on.

@@ -133,7 +133,7 @@ pub fn large(check: &mut Check, random: &mut Random) {
     // Mapped once for all cases.
     static ZEROS: OnceLock<&[u8]> = OnceLock::new();
     let zeros = *ZEROS.get_or_init(|| guard::zeros(LIMIT + 4096));
-    longest_entries(check);
+    long_texts(check, zeros);
     let made = make::file_of(random, 2);
     let mut unclosed = made.log.clone();
     reference::put(&mut unclosed, 10, 8, 0);
@@ -172,19 +172,28 @@ pub fn large(check: &mut Check, random: &mut Random) {
     }
 }
 
-/// An entry of one text, whose plain bytes are ten more than the text: the longest that 32 bits hold, and their neighbours.
-fn longest_entries(check: &mut Check) {
+/// Entries of one text: the longest and the least that each length of a varint holds, for which 12 says the bytes that
+/// the entry takes; and, where the text isn't there, the longest that 32 bits hold with ten bytes more, and their
+/// neighbours.
+fn long_texts(check: &mut Check, zeros: &[u8]) {
     let begun = reference::begin(reference::writer_new(), &mut [0; HEADER]).next;
     let named = reference::add_name(begun, &mut [0; 9], b"n").next;
-    for length in u32::MAX - 12..=u32::MAX - 8 {
+    let mut add = |length: usize, text: &[u8]| {
         let mut field = [0; FIELD];
-        reference::put(&mut field, 16, 8, u64::from(length));
-        both(check, "add_entry", 64, |out| reference::add_entry(named, out, 0, &field, &[]), |out| edge::add_entry(named, out, 0, &field, &[]));
+        reference::put(&mut field, 16, 8, length as u64);
+        both(check, "add_entry", 64, |out| reference::add_entry(named, out, 0, &field, text), |out| edge::add_entry(named, out, 0, &field, text));
+    };
+    for bits in [7, 14, 21, 28] {
+        add((1 << bits) - 1, zeros);
+        add(1 << bits, zeros);
+    }
+    for length in u32::MAX - 12..=u32::MAX - 8 {
+        add(length as usize, &[]);
     }
 }
 
 /// A call with one small output on both sides.
 fn both<A: Reply>(check: &mut Check, name: &str, length: usize, reference: impl Fn(&mut [u8]) -> A, library: impl Fn(&mut [u8]) -> A) {
-    let name = format!("{name} with lengths around 32 bits");
+    let name = format!("{name} with large lengths");
     check.call(&name, [], &mut [vec![0xEE; length]], |[], [out]| reference(out), |[], [out]| library(out));
 }

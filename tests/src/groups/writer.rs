@@ -250,6 +250,8 @@ fn entry_time(random: &mut Random, state: &Writer) -> u64 {
         2 if open => state.start.saturating_add(30_000_000_000),
         3 => random.edge(),
         4 => before,
+        // A delta at the ends of a number of bits, so that its varint is of any length.
+        5 if open => state.start.saturating_add((1u64 << random.below(35)) - random.below(2) as u64),
         _ => before.saturating_add(random.below(1 << 20) as u64),
     }
 }

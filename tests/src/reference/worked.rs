@@ -64,6 +64,22 @@ fn k3_a_tenth_byte_of_two() {
 }
 
 #[test]
+fn the_length_of_a_varint() {
+    let values = [0, 1, 127, 128, 16_383, 16_384, (1 << 56) - 1, 1 << 56, u64::MAX >> 1, 1 << 63, u64::MAX];
+    assert_eq!(values.map(varint_length), [1, 1, 1, 2, 2, 3, 8, 9, 9, 10, 10]);
+}
+
+#[test]
+fn a_varint_is_written_in_its_length() {
+    let ends = (0..64).flat_map(|bits| [1 << bits, u64::MAX >> bits]);
+    for value in ends.chain([0]) {
+        let mut written = Vec::new();
+        writer::push_varint(&mut written, value);
+        assert_eq!(written.len(), varint_length(value), "{value}");
+    }
+}
+
+#[test]
 fn k4_the_field_at_byte_two() {
     let step = field(&PLAIN, 2, Cursor { at: 2 });
     assert_eq!((step.number, step.id, step.kind, step.bits as i64, step.next.at), (0, 1, 1, -42, 14));

@@ -1,31 +1,26 @@
--- `encoded_len` meets its contract: the bytes counted and the length of what is left make up the whole. Assumes nothing.
+-- `encoded_len` meets its contract: it works out `writtenLength`. Assumes nothing.
 use borrow.Author.Needs.{needs}
 use native.Mathlib.Omega.{arith}
-use mathlib.Core.Path.{_≡_}
-use Prim.Native.Nat.{suc, _+_, _/_, _≤_}
-use lib.ListN.{length}
-use Rattle.varint.specs.Varint.{encode}
-use Rattle.varint.proofs.Codec.{encode-some, encode-ten}
-use Rattle.varint.proofs.Encoding.{length-last, length-more}
+use lib.Count.{leading-le}
+use Rattle.varint.proofs.Lengths.{written-length, written-one, written-more}
 use Rattle.varint.proofs.encoded_len.Statement.{statement}
 use Rattle.varint.proofs.encoded_len.Tie as tie
 
-abbrev Inv-loop : tie.InvT-loop
-Inv-loop v rest₀ n₀ rest n = (rest ≤ v) × (n + length (encode rest) ≡ suc (length (encode v)))
+cast-bits : tie.Need-cast-bits
+cast-bits c = omega (arith, leading-le 64 (c .args .v))
 
-abbrev μ-loop : tie.MeasureT-loop
-μ-loop v rest₀ n₀ rest n = rest
+sub-bits : tie.Need-sub-bits
+sub-bits c = leading-le 64 _
 
-add-n : tie.Need-add-n Inv-loop μ-loop
-add-n c = omega (arith, encode-some (c .before .loop .rest / 128), encode-ten (c .before .before .args .v), length-more (c .before .loop .rest) (search needs) (search needs))
+returns : tie.Need-returns
+returns c =
+    let v = c .before .args .v in
+    omega (arith, written-one v (search needs) (search needs), written-length v (search needs))
 
-loop-again : tie.Need-loop-again Inv-loop μ-loop
-loop-again c = omega (arith, length-more (c .before .loop .rest) (search needs) (search needs))
-
-returns : tie.Need-returns Inv-loop μ-loop
-returns c = omega (arith, length-last (c .before .loop .rest) (search needs))
+returns-2 : tie.Need-returns-2
+returns-2 c =
+    let v = c .before .args .v in
+    omega (arith, written-more v (search needs), written-length v (search needs))
 
 pub encoded-len-spec : {M : Type 1} → statement M
-encoded-len-spec =
-    tie.close
-    (tie.spec Inv-loop μ-loop (λ c. search needs) add-n (λ c. search needs) loop-again returns)
+encoded-len-spec = tie.close (tie.spec cast-bits sub-bits returns (λ c. search needs) returns-2)
