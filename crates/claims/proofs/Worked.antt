@@ -11,7 +11,7 @@ use Rattle.verdict.specs.Rules as rules
 use Rattle.wire.specs.Wire.{le, fromLe, leAt, splice, same, Bytes}
 use Rattle.crc32_register.specs.Register.{bitStep, steps, byteStep, crcFrom}
 use Rattle.crc32.specs.Crc.{crc32}
-use Rattle.utf8.specs.Utf8.{within, tails, shapes, followers, utf8From, utf8Of}
+use Rattle.utf8.specs.Utf8.{within, tails, sequences, followers, utf8From, utf8Of}
 use Rattle.varint.specs.Varint.{above, decodeIn, decode, encodeIn, encode}
 use Rattle.parts.specs.Parts.{spelled, headerFields, headerBytes, headerOf, blockHeaderFields, blockHeaderBytes}
 use Rattle.parts.specs.Parts.{blockHeaderOf, rowFields, rowBytes, rowOf, footerFields, footerBytes}
@@ -69,7 +69,7 @@ bytes (b ∷ s) t zero = ltb→lt b 256 (and-yes (ltb b 256) (below s) t .0)
 bytes (b ∷ s) t (suc k) = bytes s (and-yes (ltb b 256) (below s) t .1) k
 
 pub worked : Worked
-unfolding firstBroken holds numberOf rules.placeOf ruled le fromLe leAt splice same bitStep steps byteStep crcFrom crc32 within tails shapes followers
+unfolding firstBroken holds numberOf rules.placeOf ruled le fromLe leAt splice same bitStep steps byteStep crcFrom crc32 within tails sequences followers
     utf8From utf8Of above decodeIn decode encodeIn encode spelled headerFields headerBytes headerOf blockHeaderFields blockHeaderBytes blockHeaderOf rowFields
     rowBytes rowOf footerFields footerBytes headerRules sinceOf withinSpan belongsTo rows.rowAt rowsOf tableBytes firstTime lastFrom headOf blockBytes rowFor
     dictionaryBytes rowsBytes indexBytes tailBytes closedHeader closingBytes storedAt endAt endAlong headRules sumRule blocks.blockRules blocks.rowAt scanFrom

@@ -5,7 +5,7 @@ use mathlib.Core.List.{List, [], _∷_, _++_}
 use Prim.Native.Nat.{ℕ, suc, _<_}
 use native.Mathlib.Omega.{arith}
 use lib.ListN.{length, getD}
-use Rattle.utf8.specs.Utf8.{Range, within, tails, shapes, followers, utf8From, utf8Of}
+use Rattle.utf8.specs.Utf8.{Range, within, tails, sequences, followers, utf8From, utf8Of}
 use Rattle.utf8.proofs.Shapes.{first-alone}
 
 pub utf8-nil : utf8Of [] ≡ true
@@ -19,7 +19,7 @@ and-true false u e = absurd (false≢true e)
 from-append : (rs : List Range) (a b : List ℕ) → utf8From rs a ≡ true → utf8From rs (a ++ b) ≡ utf8From [] b
 unfolding utf8From
 from-append [] [] b e = refl
-from-append [] (x ∷ a) b e = from-append (followers shapes x) a b e
+from-append [] (x ∷ a) b e = from-append (followers sequences x) a b e
 from-append (r ∷ rs) [] b e = absurd (false≢true e)
 from-append (r ∷ rs) (x ∷ a) b e = let p = and-true (within r x) (utf8From rs a) e in rw (p .0) (from-append rs a b (p .1))
 

@@ -5,7 +5,7 @@ use mathlib.Core.List.{List, [], _∷_}
 use Prim.Native.Nat.{ℕ, zero, suc, _≤_, _<_}
 use native.Mathlib.Omega.{arith}
 use borrow.Author.Tests.{le-leb, lt-leb}
-use Rattle.utf8.specs.Utf8.{Range, within, tails, shapes, nothing, followers, utf8From}
+use Rattle.utf8.specs.Utf8.{Range, within, tails, sequences, nothing, followers, utf8From}
 
 pub nothing-follows : (rs : List Range) (s : List ℕ) → utf8From (nothing ∷ rs) s ≡ false
 unfolding nothing utf8From within
@@ -14,28 +14,28 @@ nothing-follows rs (zero ∷ s) = refl
 nothing-follows rs (suc b ∷ s) = simp (le-leb 1 (suc b) (omega arith), lt-leb (suc b) 0 (omega arith))
 
 module _ (b : ℕ) where
-  pub first-alone : b < 0x80 → followers shapes b ≡ tails 0
-  unfolding shapes followers within
+  pub first-alone : b < 0x80 → followers sequences b ≡ tails 0
+  unfolding sequences followers within
   first-alone h = simp (le-leb 0 b (omega arith), le-leb b 0x7F (omega arith))
 
   -- a byte that can only follow
-  pub first-tail : 0x80 ≤ b → b < 0xC0 → followers shapes b ≡ nothing ∷ []
-  unfolding shapes followers within
+  pub first-tail : 0x80 ≤ b → b < 0xC0 → followers sequences b ≡ nothing ∷ []
+  unfolding sequences followers within
   first-tail l h =
       simp (le-leb 0 b (omega arith), lt-leb b 0x7F (omega arith), lt-leb 0xC0 b h, lt-leb 0xE0 b (omega arith), lt-leb 0xF0 b (omega arith))
 
-  pub first-one : 0xC0 ≤ b → b < 0xE0 → followers shapes b ≡ tails 1
-  unfolding shapes followers within
+  pub first-one : 0xC0 ≤ b → b < 0xE0 → followers sequences b ≡ tails 1
+  unfolding sequences followers within
   first-one l h = simp (le-leb 0 b (omega arith), lt-leb b 0x7F (omega arith), le-leb 0xC0 b l, le-leb b 0xDF (omega arith))
 
-  pub first-two : 0xE0 ≤ b → b < 0xF0 → followers shapes b ≡ tails 2
-  unfolding shapes followers within
+  pub first-two : 0xE0 ≤ b → b < 0xF0 → followers sequences b ≡ tails 2
+  unfolding sequences followers within
   first-two l h =
       simp
       (le-leb 0 b (omega arith), lt-leb b 0x7F (omega arith), le-leb 0xC0 b (omega arith), lt-leb b 0xDF (omega arith), le-leb 0xE0 b l, le-leb b 0xEF (omega arith))
 
-  pub first-three : 0xF0 ≤ b → b < 0xF8 → followers shapes b ≡ tails 3
-  unfolding shapes followers within
+  pub first-three : 0xF0 ≤ b → b < 0xF8 → followers sequences b ≡ tails 3
+  unfolding sequences followers within
   first-three l h =
       simp (
         le-leb 0 b (omega arith),
@@ -49,8 +49,8 @@ module _ (b : ℕ) where
       )
 
   -- above every shape
-  pub first-above : 0xF8 ≤ b → followers shapes b ≡ nothing ∷ []
-  unfolding shapes followers within
+  pub first-above : 0xF8 ≤ b → followers sequences b ≡ nothing ∷ []
+  unfolding sequences followers within
   first-above l =
       simp (
         le-leb 0 b (omega arith),

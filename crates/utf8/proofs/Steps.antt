@@ -11,7 +11,7 @@ use borrow.Author.Tests.{le-leb, lt-leb}
 use lib.Bits.{bitOr, or-add-and, and-le-l, and-le-r}
 use lib.ListN.{length, getD, drop, drop-of-length-le, List·getD-eq-default}
 use lib.Seq.{drop-cons}
-use Rattle.utf8.specs.Utf8.{Range, within, tails, shapes, nothing, followers, utf8From, utf8Of}
+use Rattle.utf8.specs.Utf8.{Range, within, tails, sequences, nothing, followers, utf8From, utf8Of}
 use Rattle.utf8.specs.Steps.{Low, Passed, Stepped}
 use Rattle.utf8.proofs.Shapes.{nothing-follows}
 use Rattle.utf8.proofs.Laws.{utf8-nil, utf8-low}
@@ -106,14 +106,14 @@ module _ (s : List ℕ) (i : ℕ) where
 
   module _ (h : i < length s) where
     -- the first byte decides what has to follow
-    first : {rs : List Range} → followers shapes (getD s i 0) ≡ rs → utf8Of (drop i s) ≡ utf8From rs (drop (i + 1) s)
+    first : {rs : List Range} → followers sequences (getD s i 0) ≡ rs → utf8Of (drop i s) ≡ utf8From rs (drop (i + 1) s)
     unfolding utf8Of utf8From
     first e = rw (← e, add-one, drop-cons s i 0 h)
 
-    pub first-wrong : followers shapes (getD s i 0) ≡ nothing ∷ [] → Stepped (utf8Of (drop i s)) s i 0
+    pub first-wrong : followers sequences (getD s i 0) ≡ nothing ∷ [] → Stepped (utf8Of (drop i s)) s i 0
     first-wrong e = step-none (first e ∙ nothing-follows [] (drop (i + 1) s))
 
-    pub first-right : {rs : List Range} → followers shapes (getD s i 0) ≡ rs → {j : ℕ} → Stepped (utf8From rs (drop (i + 1) s)) s i j
+    pub first-right : {rs : List Range} → followers sequences (getD s i 0) ≡ rs → {j : ℕ} → Stepped (utf8From rs (drop (i + 1) s)) s i j
         → Stepped (utf8Of (drop i s)) s i j
     first-right e {j} p = subst (λ (v : Bool). Stepped v s i j) (sym (first e)) p
 

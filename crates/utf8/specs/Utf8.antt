@@ -17,32 +17,32 @@ unfoldable pub tails : ℕ → List Range
 tails zero = []
 tails (suc n) = 0x80 to 0xBF ∷ tails n
 
--- a kind of character: the range of its first byte, and those of the bytes that follow
-pub data Shape : Type 0 where
-  shape : Range → List Range → Shape
+-- a sequence of bytes: the range of the first, and those of the bytes that follow
+pub data Sequence : Type 0 where
+  sequence : Range → List Range → Sequence
 
 -- "a byte below 80 hex alone; C0 to DF followed by one byte of 80 to BF, E0 to EF by two, F0 to F7 by three"
-unfoldable pub shapes : List Shape
-shapes =
-    shape (0x00 to 0x7F) (tails 0)
-    ∷ shape (0xC0 to 0xDF) (tails 1)
-    ∷ shape (0xE0 to 0xEF) (tails 2)
-    ∷ shape (0xF0 to 0xF7) (tails 3)
+unfoldable pub sequences : List Sequence
+sequences =
+    sequence (0x00 to 0x7F) (tails 0)
+    ∷ sequence (0xC0 to 0xDF) (tails 1)
+    ∷ sequence (0xE0 to 0xEF) (tails 2)
+    ∷ sequence (0xF0 to 0xF7) (tails 3)
     ∷ []
 
 -- the range without bytes
 unfoldable pub nothing : Range
 nothing = 1 to 0
 
--- what has to follow a first byte, by the shape that has it; no byte will do behind one that starts no character
-unfoldable pub followers : List Shape → ℕ → List Range
+-- what has to follow a first byte, by the sequence that has it; no byte will do behind one that starts no sequence
+unfoldable pub followers : List Sequence → ℕ → List Range
 followers [] b = nothing ∷ []
-followers (shape first rest ∷ more) b = cond (within first b) rest (followers more b)
+followers (sequence first rest ∷ more) b = cond (within first b) rest (followers more b)
 
 -- bytes in these ranges, and then whole characters
 unfoldable pub utf8From : List Range → List ℕ → Bool
 utf8From [] [] = true
-utf8From [] (b ∷ s) = utf8From (followers shapes b) s
+utf8From [] (b ∷ s) = utf8From (followers sequences b) s
 utf8From (r ∷ rs) [] = false
 utf8From (r ∷ rs) (b ∷ s) = within r b && utf8From rs s
 
