@@ -1,36 +1,56 @@
 -- Laws of UTF-8 texts: the empty one, two end to end, bytes below 80 hex. Assumes nothing.
-use mathlib.Core.Path.{_≡_, refl, _∙_}
-use mathlib.Core.Bool.{Bool, true, false, false≢true, _&&_}
+use mathlib.Core.Path.{_≡_, refl, ap, _∙_}
+use mathlib.Core.Bool.{true, false, false≢true}
 use mathlib.Core.List.{List, [], _∷_, _++_}
 use Prim.Native.Nat.{ℕ, suc, _<_}
 use native.Mathlib.Omega.{arith}
 use lib.ListN.{length, getD}
-use Rattle.utf8.specs.Utf8.{Range, within, tails, sequences, followers, utf8From, utf8Of}
-use Rattle.utf8.proofs.Shapes.{first-alone}
+use Rattle.utf8.specs.Utf8.{Range, _to_, within, tails, Sequence, sequences, followers, utf8From, utf8Of}
+use Rattle.utf8.specs.Grammar.{Spells}
+use Rattle.utf8.proofs.Tables.{and-true, in-range, first-00}
 
 pub utf8-nil : utf8Of [] ≡ true
 unfolding utf8Of utf8From
 utf8-nil = refl
 
-and-true : (t u : Bool) → (t && u) ≡ true → (t ≡ true) × (u ≡ true)
-and-true true u e = (refl, e)
-and-true false u e = absurd (false≢true e)
-
-from-append : (rs : List Range) (a b : List ℕ) → utf8From rs a ≡ true → utf8From rs (a ++ b) ≡ utf8From [] b
+from-append : (table : List Sequence) (rs : List Range) (a b : List ℕ) → utf8From table rs a ≡ true
+    → utf8From table rs (a ++ b) ≡ utf8From table [] b
 unfolding utf8From
-from-append [] [] b e = refl
-from-append [] (x ∷ a) b e = from-append (followers sequences x) a b e
-from-append (r ∷ rs) [] b e = absurd (false≢true e)
-from-append (r ∷ rs) (x ∷ a) b e = let p = and-true (within r x) (utf8From rs a) e in rw (p .0) (from-append rs a b (p .1))
+from-append table [] [] b e = refl
+from-append table [] (x ∷ a) b e = from-append table (followers table x) a b e
+from-append table (r ∷ rs) [] b e = absurd (false≢true e)
+from-append table (r ∷ rs) (x ∷ a) b e =
+    let p = and-true (within r x) (utf8From table rs a) e in
+    rw (p .0) (from-append table rs a b (p .1))
 
--- behind whole characters what follows decides
+-- after whole sequences what follows decides
 pub utf8-append : (a b : List ℕ) → utf8Of a ≡ true → utf8Of (a ++ b) ≡ utf8Of b
 unfolding utf8Of
-utf8-append a b e = from-append [] a b e
+utf8-append a b e = from-append sequences [] a b e
+
+spells-pass : (table : List Sequence) (rs : List Range) (c s : List ℕ) → Spells rs c
+    → utf8From table rs (c ++ s) ≡ utf8From table [] s
+unfolding Spells utf8From
+spells-pass table [] [] s u = refl
+spells-pass table [] (b ∷ c) s u = absurd u
+spells-pass table (low to high ∷ rs) [] s u = absurd u
+spells-pass table (low to high ∷ rs) (b ∷ c) s u =
+    simp (in-range low high b (u .0) (u .1)) (spells-pass table rs c s (u .2))
+
+-- after a whole sequence what follows decides
+pub sequence-pass : (table : List Sequence) (b : ℕ) (c s : List ℕ) {rs : List Range} → followers table b ≡ rs → Spells rs c
+    → utf8From table [] (b ∷ (c ++ s)) ≡ utf8From table [] s
+unfolding utf8From
+sequence-pass table b c s {rs} e u = ap (λ (q : List Range). utf8From table q (c ++ s)) e ∙ spells-pass table rs c s u
+
+pub utf8-sequence : (b : ℕ) (c s : List ℕ) {rs : List Range} → followers sequences b ≡ rs → Spells rs c
+    → utf8Of (b ∷ (c ++ s)) ≡ utf8Of s
+unfolding utf8Of
+utf8-sequence b c s e u = sequence-pass sequences b c s e u
 
 pub utf8-low : (b : ℕ) (s : List ℕ) → b < 0x80 → utf8Of (b ∷ s) ≡ utf8Of s
-unfolding utf8Of utf8From tails
-utf8-low b s h = rw (first-alone b h)
+unfolding Spells tails
+utf8-low b s h = utf8-sequence b [] s (first-00 b (omega arith)) tt
 
 pub utf8-ascii : (s : List ℕ) → ((k : ℕ) → k < length s → getD s k 0 < 0x80) → utf8Of s ≡ true
 utf8-ascii [] h = utf8-nil

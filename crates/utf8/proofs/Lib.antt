@@ -1,4 +1,7 @@
 -- The laws.
-pub mod Shapes
+pub mod Tables
 pub mod Laws
+pub mod Grammar
 pub mod Steps
+pub mod Windows
+pub mod Runs

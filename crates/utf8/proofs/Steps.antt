@@ -4,16 +4,15 @@ use mathlib.Core.Bool.{Bool, true, false}
 use mathlib.Core.List.{List, [], _∷_}
 use Prim.Native.Nat.{ℕ, zero, suc, _+_, _-_, _≤_, _<_, zero-le}
 use native.Mathlib.Nat.{add-zero}
-use native.Mathlib.Numerals.{add-one}
+use native.Mathlib.Numerals.{add-one, unary-clauses}
 use native.Mathlib.Omega.{arith}
 use native.Mathlib.Decide.{decLt}
-use borrow.Author.Tests.{le-leb, lt-leb}
 use lib.Bits.{bitOr, or-add-and, and-le-l, and-le-r}
 use lib.ListN.{length, getD, drop, drop-of-length-le, List·getD-eq-default}
 use lib.Seq.{drop-cons}
-use Rattle.utf8.specs.Utf8.{Range, within, tails, sequences, nothing, followers, utf8From, utf8Of}
+use Rattle.utf8.specs.Utf8.{Range, _to_, tails, sequences, nothing, followers, utf8From, utf8Of}
 use Rattle.utf8.specs.Steps.{Low, Passed, Stepped}
-use Rattle.utf8.proofs.Shapes.{nothing-follows}
+use Rattle.utf8.proofs.Tables.{in-range, below-range, above-range, nothing-follows}
 use Rattle.utf8.proofs.Laws.{utf8-nil, utf8-low}
 
 -- ---- bytes below 80 hex
@@ -61,41 +60,57 @@ passed-both s i j k p q =
 
 -- ---- bytes that have to follow
 
-pub tail-there : (s : List ℕ) (at : ℕ) → 0x80 ≤ getD s at 0 → at < length s
-tail-there s at b = go (decLt at (length s))
+pub byte-there : (s : List ℕ) (at : ℕ) → 0 < getD s at 0 → at < length s
+byte-there s at b = go (decLt at (length s))
   where
     go : Dec (at < length s) → at < length s
     go (yes h) = h
     go (no h) = absurd (omega (arith, List·getD-eq-default s 0 {n = at} (omega arith)))
 
-module _ (s : List ℕ) (at left : ℕ) (owed : left ≡ 0 → ⊥) where
-  pub tail-low : getD s at 0 < 0x80 → utf8From (tails left) (drop at s) ≡ false
-  unfolding utf8From tails within
-  tail-low b = go (decLt at (length s))
+-- the byte at a place against the range that it has to be in
+module _ (s : List ℕ) (at low high : ℕ) (rs : List Range) where
+  pub byte-low : getD s at 0 < low → utf8From sequences (low to high ∷ rs) (drop at s) ≡ false
+  unfolding utf8From
+  byte-low b = go (decLt at (length s))
     where
-      go : Dec (at < length s) → utf8From (tails left) (drop at s) ≡ false
-      go (yes h) = let e : left ≡ suc (left - 1) = omega arith in rw (e, drop-cons s at 0 h) (simp (lt-leb _ _ b))
-      go (no h) = let e : left ≡ suc (left - 1) = omega arith in rw (e, drop-of-length-le s {i = at} (omega arith))
+      go : Dec (at < length s) → utf8From sequences (low to high ∷ rs) (drop at s) ≡ false
+      go (yes h) = rw (drop-cons s at 0 h) (simp (below-range low high (getD s at 0) b))
+      go (no h) = rw (drop-of-length-le s {i = at} (omega arith))
 
-  pub tail-high : 0xC0 ≤ getD s at 0 → utf8From (tails left) (drop at s) ≡ false
-  unfolding utf8From tails within
-  tail-high b =
-      let e : left ≡ suc (left - 1) = omega arith in
-      rw (e, drop-cons s at 0 (tail-there s at (omega arith))) (simp (le-leb 0x80 (getD s at 0) (omega arith), lt-leb (getD s at 0) 0xBF (omega arith)))
+  pub byte-high : 0 < low → low ≤ getD s at 0 → high < getD s at 0 → utf8From sequences (low to high ∷ rs) (drop at s) ≡ false
+  unfolding utf8From
+  byte-high p l h = rw (drop-cons s at 0 (byte-there s at (omega arith))) (simp (above-range low high (getD s at 0) l h))
 
-  pub tail-right : 0x80 ≤ getD s at 0 → getD s at 0 < 0xC0 → utf8From (tails (left - 1)) (drop (at + 1) s) ≡ utf8From (tails left) (drop at s)
-  unfolding utf8From tails within
+  pub byte-right : 0 < low → low ≤ getD s at 0 → getD s at 0 ≤ high
+      → utf8From sequences rs (drop (at + 1) s) ≡ utf8From sequences (low to high ∷ rs) (drop at s)
+  unfolding utf8From
+  byte-right p l h =
+      sym (rw (add-one, drop-cons s at 0 (byte-there s at (omega arith))) (simp (in-range low high (getD s at 0) l h)))
+
+tails-more : (left : ℕ) → (left ≡ 0 → ⊥) → tails left ≡ 0x80 to 0xBF ∷ tails (left - 1)
+unfolding tails
+tails-more zero n = absurd (n refl)
+tails-more (suc left) n = simp unary-clauses
+
+-- the same of the next of several tails
+module _ (s : List ℕ) (at left : ℕ) (owed : left ≡ 0 → ⊥) where
+  pub tail-low : getD s at 0 < 0x80 → utf8From sequences (tails left) (drop at s) ≡ false
+  tail-low b = rw (tails-more left owed) (byte-low s at 0x80 0xBF (tails (left - 1)) b)
+
+  pub tail-high : 0xC0 ≤ getD s at 0 → utf8From sequences (tails left) (drop at s) ≡ false
+  tail-high b = rw (tails-more left owed) (byte-high s at 0x80 0xBF (tails (left - 1)) (omega arith) (omega arith) (omega arith))
+
+  pub tail-right : 0x80 ≤ getD s at 0 → getD s at 0 < 0xC0
+      → utf8From sequences (tails (left - 1)) (drop (at + 1) s) ≡ utf8From sequences (tails left) (drop at s)
   tail-right b c =
-      let e : left ≡ suc (left - 1) = omega arith in
-      sym
-      (ap (λ (n : ℕ). utf8From (tails n) (drop at s)) e
-      ∙ rw (add-one, drop-cons s at 0 (tail-there s at b)) (simp (le-leb _ _ b, le-leb (getD s at 0) 0xBF (omega arith))))
+      byte-right s at 0x80 0xBF (tails (left - 1)) (omega arith) b (omega arith)
+      ∙ ap (λ (rs : List Range). utf8From sequences rs (drop at s)) (sym (tails-more left owed))
 
-pub tails-end : (s : List ℕ) (at left : ℕ) → left ≡ 0 → utf8Of (drop at s) ≡ utf8From (tails left) (drop at s)
+pub tails-end : (s : List ℕ) (at left : ℕ) → left ≡ 0 → utf8Of (drop at s) ≡ utf8From sequences (tails left) (drop at s)
 unfolding utf8Of tails
 tails-end s at left e = rw e
 
--- ---- one character
+-- ---- one sequence
 
 module _ (s : List ℕ) (i : ℕ) where
   pub step-none : {v : Bool} → v ≡ false → Stepped v s i 0
@@ -104,16 +119,29 @@ module _ (s : List ℕ) (i : ℕ) where
   pub step-past : (j : ℕ) → i < j → j ≤ length s → {v : Bool} → utf8Of (drop j s) ≡ v → Stepped v s i j
   step-past j l h e = record { within = h; none = λ z. absurd (omega arith); past = λ n. (l, e) }
 
+  -- the same from the byte before
+  pub step-on : {u v : Bool} → u ≡ v → {j : ℕ} → Stepped u s (i + 1) j → Stepped v s i j
+  step-on e {j} p =
+      record {
+        within = p .within;
+        none = λ z. sym e ∙ p .none z;
+        past = λ n. (omega (arith, p .past n .0), p .past n .1 ∙ e);
+      }
+
+  -- and then past whole sequences
+  pub step-passed : {v : Bool} {j : ℕ} → Stepped v s i j → (j ≡ 0 → ⊥) → {k : ℕ} → Passed s j k → Stepped v s i k
+  step-passed p n {k} q = let l = p .past n in step-past k (omega (arith, l .0, q .from)) (q .within) (q .rest ∙ l .1)
+
   module _ (h : i < length s) where
     -- the first byte decides what has to follow
-    first : {rs : List Range} → followers sequences (getD s i 0) ≡ rs → utf8Of (drop i s) ≡ utf8From rs (drop (i + 1) s)
+    first : {rs : List Range} → followers sequences (getD s i 0) ≡ rs → utf8Of (drop i s) ≡ utf8From sequences rs (drop (i + 1) s)
     unfolding utf8Of utf8From
     first e = rw (← e, add-one, drop-cons s i 0 h)
 
     pub first-wrong : followers sequences (getD s i 0) ≡ nothing ∷ [] → Stepped (utf8Of (drop i s)) s i 0
-    first-wrong e = step-none (first e ∙ nothing-follows [] (drop (i + 1) s))
+    first-wrong e = step-none (first e ∙ nothing-follows sequences [] (drop (i + 1) s))
 
-    pub first-right : {rs : List Range} → followers sequences (getD s i 0) ≡ rs → {j : ℕ} → Stepped (utf8From rs (drop (i + 1) s)) s i j
+    pub first-right : {rs : List Range} → followers sequences (getD s i 0) ≡ rs → {j : ℕ} → Stepped (utf8From sequences rs (drop (i + 1) s)) s i j
         → Stepped (utf8Of (drop i s)) s i j
     first-right e {j} p = subst (λ (v : Bool). Stepped v s i j) (sym (first e)) p
 

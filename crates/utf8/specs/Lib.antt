@@ -1,3 +1,4 @@
--- The definitions: UTF-8, and what the private functions answer.
+-- The definitions: UTF-8, its grammar, and what the private functions answer.
 pub mod Utf8
+pub mod Grammar
 pub mod Steps

@@ -19,13 +19,13 @@ loop-holds : tie.Need-loop-holds Inv-loop μ-loop
 loop-holds c = (search needs, refl)
 
 returns : tie.Need-returns Inv-loop μ-loop
-returns c = sym (c .before .past-char .ensures .none (search needs)) ∙ c .before .before .before .loop .inv .1
+returns c = sym (c .before .past-sequences .ensures .none (search needs)) ∙ c .before .before .before .loop .inv .1
 
 loop-less : tie.Need-loop-less Inv-loop μ-loop
-loop-less c = omega (arith, c .before .past-char .ensures .past (search needs) .0)
+loop-less c = omega (arith, c .before .past-sequences .ensures .past (search needs) .0)
 
 loop-again : tie.Need-loop-again Inv-loop μ-loop
-loop-again c = (search needs, c .before .past-char .ensures .past (search needs) .1 ∙ c .before .before .before .loop .inv .1)
+loop-again c = (search needs, c .before .past-sequences .ensures .past (search needs) .1 ∙ c .before .before .before .loop .inv .1)
 
 returns-2 : tie.Need-returns-2 Inv-loop μ-loop
 returns-2 c = let l = c .before in end-right (l .before .before .args .s .now) (l .loop .i) (search needs) ∙ l .loop .inv .1
