@@ -67,6 +67,10 @@ pub fn enter(
         Entering::EntryPart => {
             draft::entry_part(s, room, second, part(line), text::word(line, 6), payload)
         }
+        Entering::EntryText => {
+            let kind = (text::number_at(line, 3) % 0x100) as u8;
+            draft::entry_text(s, room, second, kind, text::word(line, 4), payload)
+        }
     }
 }
 

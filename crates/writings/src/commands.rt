@@ -14,6 +14,7 @@ pub enum Entering {
     Entry,
     EntryCount,
     EntryPart,
+    EntryText,
 }
 
 // The writer's calls that store.
@@ -63,12 +64,16 @@ fn named_storing(name: &[u8]) -> Command {
 }
 
 fn named_entering(name: &[u8]) -> Command {
-    match text::place(b"name long-name entry entry-count entry-part", name) {
+    match text::place(
+        b"name long-name entry entry-count entry-part entry-text",
+        name,
+    ) {
         0 => Command::Enter(Entering::Name),
         1 => Command::Enter(Entering::LongName),
         2 => Command::Enter(Entering::Entry),
         3 => Command::Enter(Entering::EntryCount),
         4 => Command::Enter(Entering::EntryPart),
+        5 => Command::Enter(Entering::EntryText),
         _ => named_storing(name),
     }
 }

@@ -210,6 +210,24 @@ pub fn entry_part(
     add_entry(s, room, Epoch(time), fields, &bytes[..n], payload)
 }
 
+// An entry of the whole number 1 and a text of a type, both of name 0.
+pub fn entry_text(
+    s: Draft,
+    room: usize,
+    time: u64,
+    kind: u8,
+    hex: &[u8],
+    payload: &mut [u8],
+) -> Draft {
+    let mut bytes = io::buffer();
+    let n = text::unhex(hex, &mut bytes);
+    let mut table = io::buffer();
+    put_record(&mut table, 0, 0, 1, 1, 0);
+    put_record(&mut table, 1, 0, kind, 0, n as u64);
+    let fields = wire::part_at(&table, 0, 48);
+    add_entry(s, room, Epoch(time), fields, &bytes[..n], payload)
+}
+
 // What a block takes beside its bytes.
 pub struct Adding {
     pub rows: usize,
