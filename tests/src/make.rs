@@ -2,7 +2,7 @@
 
 use crate::random::Random;
 use crate::records::Writer;
-use crate::reference::{self, put, value_at, Field, Value, BLOCKS, BLOCK_HEADER, FOOTER, HEADER, INDEX_HEADER, ROW};
+use crate::reference::{self, put, value_at, Field, Range, Value, BLOCKS, BLOCK_HEADER, CHARACTERS, FOOTER, HEADER, INDEX_HEADER, ROW, TAIL};
 
 /// A field as it was meant: `text` is of strings and JSON, `bits` of the others.
 #[derive(Clone, Debug, PartialEq, Eq)]
@@ -64,40 +64,73 @@ impl MadeFile {
     }
 }
 
-/// One character: often printable, else one that is escaped, or two to four bytes of any value that has the shape.
-fn push_character(random: &mut Random, text: &mut Vec<u8>) {
-    let following = match random.below(10) {
-        0..=5 => {
-            text.push(0x20 + random.below(0x5F) as u8);
-            0
-        }
-        6 => {
-            text.push(random.pick(&[0x00, 0x0A, 0x1F, 0x20, b'"', b'\\', b'=', 0x7E, 0x7F]));
-            0
-        }
-        7 => {
-            text.push(0xC0 + random.below(0x20) as u8);
-            1
-        }
-        8 => {
-            text.push(0xE0 + random.below(0x10) as u8);
-            2
-        }
-        _ => {
-            text.push(0xF0 + random.below(8) as u8);
-            3
-        }
-    };
-    for _ in 0..following {
-        text.push(0x80 + random.below(0x40) as u8);
+/// Bytes at the ends of the ranges in the table of UTF-8, and beside them.
+pub const EDGES: [u8; 26] = [
+    0x00, 0x7F, 0x80, 0x8F, 0x90, 0x9F, 0xA0, 0xBF, 0xC0, 0xC1, 0xC2, 0xDF, 0xE0, 0xE1, 0xEC, 0xED, 0xEE, 0xEF, 0xF0, 0xF1, 0xF3, 0xF4, 0xF5, 0xF7,
+    0xF8, 0xFF,
+];
+
+/// What has a first byte and the tails that go with it, and is no character: a longer form of one, half of a pair of
+/// UTF-16, or a number that is too large.
+const NEARLY: [&[Range]; 6] = [
+    &[(0xC0, 0xC1), TAIL],
+    &[(0xE0, 0xE0), (0x80, 0x9F), TAIL],
+    &[(0xED, 0xED), (0xA0, 0xBF), TAIL],
+    &[(0xF0, 0xF0), (0x80, 0x8F), TAIL, TAIL],
+    &[(0xF4, 0xF4), (0x90, 0xBF), TAIL, TAIL],
+    &[(0xF5, 0xF7), TAIL, TAIL, TAIL],
+];
+
+/// A byte of a range, often one of its ends.
+fn byte_of(random: &mut Random, (least, most): Range) -> u8 {
+    match random.below(4) {
+        0 => least,
+        1 => most,
+        _ => least + random.below(usize::from(most - least) + 1) as u8,
     }
 }
 
-/// UTF-8 by shape; mostly short, sometimes empty, rarely with a length of two varint bytes.
+/// A character by a row of the table of UTF-8.
+pub fn character(random: &mut Random, row: &[Range]) -> Vec<u8> {
+    row.iter().map(|&range| byte_of(random, range)).collect()
+}
+
+/// A character by any row.
+fn any_character(random: &mut Random) -> Vec<u8> {
+    let row = random.pick(&CHARACTERS);
+    character(random, row)
+}
+
+/// One character: often printable, else one that is escaped, or one by any row.
+fn push_character(random: &mut Random, text: &mut Vec<u8>) {
+    match random.below(10) {
+        0..=5 => text.push(0x20 + random.below(0x5F) as u8),
+        6 => text.push(random.pick(&[0x00, 0x0A, 0x1F, 0x20, b'"', b'\\', b'=', 0x7E, 0x7F])),
+        _ => text.extend(any_character(random)),
+    }
+}
+
+/// UTF-8 of up to some 300 bytes: mixed, by all rows alike, or nearly all by one row, as texts in one script are.
+pub fn long_text(random: &mut Random) -> Vec<u8> {
+    let length = random.below(300);
+    let usual = random.pick(&CHARACTERS);
+    let kind = random.below(3);
+    let mut text = Vec::with_capacity(length + 4);
+    while text.len() < length {
+        match kind {
+            0 => push_character(random, &mut text),
+            1 if !random.once_in(20) => text.extend(character(random, usual)),
+            _ => text.extend(any_character(random)),
+        }
+    }
+    text
+}
+
+/// UTF-8; mostly short, sometimes empty, rarely with a length of two varint bytes.
 pub fn text(random: &mut Random) -> Vec<u8> {
     let characters = match random.below(12) {
         0 => 0,
-        1 => 100 + random.below(100),
+        1 => return long_text(random),
         _ => 1 + random.below(8),
     };
     let mut text = Vec::new();
@@ -107,19 +140,47 @@ pub fn text(random: &mut Random) -> Vec<u8> {
     text
 }
 
-/// Bytes that may or may not be UTF-8.
-pub fn doubtful_text(random: &mut Random) -> Vec<u8> {
-    let mut bytes = text(random);
-    match random.below(3) {
-        0 if !bytes.is_empty() => {
-            let at = random.below(bytes.len());
-            bytes[at] = random.pick(&[0x80, 0xBF, 0xC0, 0xE0, 0xF7, 0xF8, 0xFF]);
+/// A character with one byte beside its range or at another's edge: UTF-8 only where a row has it all the same.
+fn beside_row(random: &mut Random) -> Vec<u8> {
+    let row = random.pick(&CHARACTERS);
+    let mut bytes = character(random, row);
+    let at = random.below(row.len());
+    let (least, most) = row[at];
+    let edge = random.pick(&EDGES);
+    bytes[at] = random.pick(&[least.wrapping_sub(1), most.wrapping_add(1), edge]);
+    bytes
+}
+
+/// A place between two characters, or at an end of the text.
+fn between(random: &mut Random, text: &[u8]) -> usize {
+    let begins = |&i: &usize| !(TAIL.0..=TAIL.1).contains(&text[i]);
+    let places: Vec<usize> = (0..text.len()).filter(begins).chain([text.len()]).collect();
+    random.pick(&places)
+}
+
+/// One fault in UTF-8, or what may be one.
+pub fn damage_text(random: &mut Random, text: &mut Vec<u8>) {
+    let at = random.below(text.len() + 1);
+    match random.below(8) {
+        0 if at < text.len() => text[at] = random.pick(&EDGES),
+        1 if at < text.len() => {
+            text.remove(at);
         }
-        1 => {
-            bytes.pop();
+        2 => text.truncate(at),
+        3 => text.insert(at, random.pick(&EDGES)),
+        kind => {
+            let at = between(random, text);
+            let row = random.pick(&NEARLY);
+            let fault = if kind == 4 { beside_row(random) } else { character(random, row) };
+            text.splice(at..at, fault);
         }
-        _ => bytes.push(random.pick(&[0x7F, 0x80, 0xC0, 0xDF, 0xEF, 0xF0, 0xF8])),
     }
+}
+
+/// Bytes that may or may not be UTF-8, short or long.
+pub fn doubtful_text(random: &mut Random) -> Vec<u8> {
+    let mut bytes = if random.once_in(3) { long_text(random) } else { text(random) };
+    damage_text(random, &mut bytes);
     bytes
 }
 
@@ -499,15 +560,16 @@ pub fn damaged_plain(random: &mut Random, plain: &[u8]) -> Vec<u8> {
     let mut plain = plain.to_vec();
     for _ in 0..1 + random.below(3) / 2 {
         let at = random.below(plain.len() + 1);
-        match random.below(7) {
+        match random.below(8) {
             0 => plain.truncate(at),
             1 | 2 if at < plain.len() => plain[at] = random.pick(&[0, 1, 2, 3, 4, 5, 6, 8, 9, 0x7F, 0x80, 0xBF, 0xC0, 0xFF]),
             3 if at < plain.len() => plain[at] = random.byte(),
-            4 => {
+            4 if at < plain.len() => plain[at] = random.pick(&EDGES),
+            5 => {
                 let length = 1 + random.below(3);
                 plain.splice(at..at, random.bytes(length));
             }
-            5 if at < plain.len() => {
+            6 if at < plain.len() => {
                 plain.remove(at);
             }
             _ => {
@@ -602,6 +664,21 @@ mod tests {
             assert_eq!(answer.number, 0);
             assert_eq!(text, made.text());
         }
+    }
+
+    #[test]
+    fn made_texts_are_utf8_of_every_row() {
+        let mut random = Random::new(3, 0, 0);
+        let (mut long, mut refused) = (Vec::new(), 0);
+        for _ in 0..1000 {
+            assert!(reference::is_utf8(&text(&mut random)));
+            long.extend(long_text(&mut random));
+            refused += u32::from(!reference::is_utf8(&doubtful_text(&mut random)));
+        }
+        assert!(reference::is_utf8(&long));
+        let ends = CHARACTERS.iter().flat_map(|row| [row[0].0, row[0].1]);
+        assert!(ends.into_iter().all(|byte| long.contains(&byte)));
+        assert!((500..900).contains(&refused), "{refused}");
     }
 
     #[test]

@@ -5,6 +5,7 @@ mod file;
 mod limits;
 mod list;
 mod plain;
+mod text;
 mod writer;
 
 use crate::check::Check;
@@ -17,7 +18,7 @@ pub struct Group {
     pub run: fn(&mut Check, &mut Random),
 }
 
-pub const GROUPS: [Group; 19] = [
+pub const GROUPS: [Group; 20] = [
     Group { name: "open", cases: 6000, run: file::open },
     Group { name: "query", cases: 20_000, run: file::query },
     Group { name: "recover", cases: 6000, run: file::recover },
@@ -29,6 +30,7 @@ pub const GROUPS: [Group; 19] = [
     Group { name: "name_at", cases: 10_000, run: plain::name_at },
     Group { name: "number", cases: 4000, run: plain::number },
     Group { name: "steps", cases: 4000, run: plain::steps },
+    Group { name: "text", cases: text::CASES, run: text::text },
     Group { name: "block", cases: 6000, run: list::block },
     Group { name: "book", cases: 6000, run: list::book },
     Group { name: "list", cases: 5000, run: list::list },

@@ -234,7 +234,7 @@ fn damage_records(random: &mut Random, records: &mut Vec<u8>, text: &mut [u8], n
         }
         6 if !text.is_empty() => {
             let at = random.below(text.len());
-            text[at] = random.pick(&[0x80, 0xC0, 0xFF]);
+            text[at] = random.pick(&make::EDGES);
         }
         _ => records.truncate(records.len() - 1 - random.below(FIELD - 1)),
     }

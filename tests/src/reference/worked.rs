@@ -1,6 +1,7 @@
 //! The paper's worked cases.
 
 use super::*;
+use crate::make::EDGES;
 use crate::records::{Cursor, Writer};
 
 const PLAIN: [u8; 26] = [
@@ -23,6 +24,16 @@ fn small_stores() -> (Vec<u8>, Vec<u8>, Vec<u8>) {
 fn small_file() -> Vec<u8> {
     let (_, block, last) = small_stores();
     [&last[..64], &block, &last[64..]].concat()
+}
+
+/// A field to write.
+fn record(id: u64, kind: u64, bits: u64, length: u64) -> [u8; FIELD] {
+    let mut field = [0; FIELD];
+    put(&mut field, 0, 2, id);
+    put(&mut field, 2, 1, kind);
+    put(&mut field, 8, 8, bits);
+    put(&mut field, 16, 8, length);
+    field
 }
 
 fn chosen(t1: u64, t2: u64) -> Vec<u64> {
@@ -194,14 +205,6 @@ fn packed_entries_are_the_small_files_plain_bytes() {
         state = added.next;
     }
     assert_eq!(dictionary, DICTIONARY);
-    let record = |id: u64, kind: u64, bits: u64, length: u64| {
-        let mut field = [0; FIELD];
-        put(&mut field, 0, 2, id);
-        put(&mut field, 2, 1, kind);
-        put(&mut field, 8, 8, bits);
-        put(&mut field, 16, 8, length);
-        field
-    };
     let mut payload = [0; 26];
     state = add_entry(state, &mut payload, 1000, &record(1, 1, -42i64 as u64, 0), b"").next;
     let both = [record(0, 0, 1, 2), record(1, 4, 0, 0)].concat();
@@ -209,12 +212,71 @@ fn packed_entries_are_the_small_files_plain_bytes() {
     assert_eq!((state.plain, payload), (26, PLAIN));
 }
 
+/// Characters at the edges of the table of UTF-8.
+const ACCEPTED: [&[u8]; 8] =
+    [b"\xC2\x80", b"\xE0\xA0\x80", b"\xED\x9F\xBF", b"\xEE\x80\x80", b"\xEF\xBF\xBF", b"\xF0\x90\x80\x80", b"\xF4\x8F\xBF\xBF", b"\0"];
+
+/// What stands just beside it, though the number of bytes is right.
+const REFUSED: [&[u8]; 8] =
+    [b"\xC0\x80", b"\xC1\xBF", b"\xE0\x9F\xBF", b"\xED\xA0\x80", b"\xF0\x8F\xBF\xBF", b"\xF4\x90\x80\x80", b"\xF5\x80\x80\x80", b"\xF7\xBF\xBF\xBF"];
+
+/// The numbers and places of the calls that judge a text, in turn: `names` of a dictionary with the names "a" and this,
+/// `add_name`, and `field` and `add_entry` with a string and with JSON.
+fn judged(text: &[u8]) -> [(u64, u64); 6] {
+    let size = text.len() as u8;
+    let dictionary = [&b"\x02\0\0\0\0\0\x01\0a\x01\0"[..], &[size, 0], text].concat();
+    let checked = names(&dictionary);
+    let begun = begin(writer_new(), &mut [0; 64]).next;
+    let added = add_name(begun, &mut [0; 16], text).answer;
+    let read = |kind: u8| {
+        let step = field(&[&[0, 1, 0, 0, kind, size], text].concat(), 1, Cursor { at: 2 });
+        (step.number, step.place)
+    };
+    let named = add_name(begun, &mut [0; 9], b"n").next;
+    let packed = |kind: u64| {
+        let fields = [record(0, 1, 1, 0), record(0, kind, 0, u64::from(size))].concat();
+        let answer = add_entry(named, &mut [0; 32], 0, &fields, text).answer;
+        (answer.number, answer.place)
+    };
+    [(checked.number, checked.place), (added.number, added.place), read(0), read(5), packed(0), packed(5)]
+}
+
 #[test]
-fn shapes_of_utf8() {
-    for good in [&b""[..], b"a\x7F", b"\xC0\x80", b"\xDF\xBF", b"\xE0\x80\x80", b"\xF7\xBF\xBF\xBF"] {
-        assert!(is_utf8(good), "{good:?}");
+fn utf8_by_the_examples() {
+    for text in ACCEPTED {
+        assert!(is_utf8(text), "{text:X?}");
+        assert_eq!(judged(text), [(0, 0); 6], "{text:X?}");
     }
-    for bad in [&b"\x80"[..], b"\xBF", b"\xC0", b"\xC0\x7F", b"\xC0\xC0", b"\xE0\x80", b"\xF0\x80\x80", b"\xF8\x80\x80\x80\x80", b"\xFF"] {
-        assert!(!is_utf8(bad), "{bad:?}");
+    for text in REFUSED {
+        assert!(!is_utf8(text), "{text:X?}");
+        assert_eq!(judged(text), [(10, 13), (10, 0), (11, 2), (11, 2), (11, 14), (11, 14)], "{text:X?}");
+    }
+}
+
+/// Compares `is_utf8` with Rust's own judge on every text of so many bytes of those given.
+fn agrees_with_rust(bytes: &[u8], length: u32) {
+    let mut text = vec![0; length as usize];
+    for number in 0..bytes.len().pow(length) {
+        let mut left = number;
+        for byte in &mut text {
+            *byte = bytes[left % bytes.len()];
+            left /= bytes.len();
+        }
+        assert_eq!(is_utf8(&text), std::str::from_utf8(&text).is_ok(), "{text:X?}");
+    }
+}
+
+#[test]
+fn utf8_by_rust_on_every_short_text() {
+    let bytes: Vec<u8> = (0..=0xFF).collect();
+    for length in 0..=3 {
+        agrees_with_rust(&bytes, length);
+    }
+}
+
+#[test]
+fn utf8_by_rust_at_the_edges() {
+    for length in 4..=5 {
+        agrees_with_rust(&EDGES, length);
     }
 }

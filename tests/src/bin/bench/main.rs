@@ -1,5 +1,5 @@
-//! Times the library against peers in the same run: the checksums of zlib, libdeflate and ISA-L and memcpy on the same bytes, a plain C loop, and
-//! the implementation in Rust. Prints a table, and writes the ratios as a plot to the file that is named.
+//! Times the library against peers in the same run: the checksums of zlib, libdeflate and ISA-L and memcpy on the same bytes, a plain C loop,
+//! Rust's own judge of UTF-8, and the implementation in Rust. Prints a table, and writes the ratios as a plot to the file that is named.
 
 #[path = "../../edge.rs"]
 #[allow(dead_code)]
@@ -8,6 +8,7 @@ mod files;
 mod measure;
 mod peers;
 mod plot;
+mod text;
 mod writing;
 
 use measure::Line;
@@ -19,6 +20,7 @@ fn main() {
     files::query(&mut lines);
     files::listing(&mut lines);
     files::naming(&mut lines);
+    text::fields(&mut lines);
     writing::dictionary(&mut lines);
     writing::adding(&mut lines);
     writing::entries(&mut lines);
