@@ -10,13 +10,16 @@
 #include <string.h>
 #include <sys/mman.h>
 
-enum { NAMES = 65535, NAME = 12, STORED = 1 << 20, FIELDS = 255, TEXT = 1 << 16, PAINT = 0xA5, PAGE = 4096 };
+/* Twelve bytes of characters of one to four. Names and texts are made of them: ASCII alone is judged by less code. */
+#define UNIT "xxx\xC3\xA9\xE2\x82\xAC\xF0\x9F\x98\x80"
+
+enum { NAMES = 65535, NAME = 84, STORED = 1 << 20, FIELDS = 255, TEXT = 1 << 16, PAINT = 0xA5, PAGE = 4096 };
 
 /* What the calls are lent. */
 static uint8_t *dictionary, *log_bytes, *cut, *out, *plain, *book, *stored;
 static size_t dictionary_len, log_len, cut_len, out_len, plain_len, book_len;
 static uint8_t rows[HPLOG_ROW * HPLOG_BLOCKS], numbers[4 * HPLOG_BLOCKS], frame[HPLOG_FRAME], report[HPLOG_REPORT];
-static uint8_t fields[HPLOG_FIELD * FIELDS], text[TEXT], panel[HPLOG_PANEL];
+static uint8_t fields[HPLOG_FIELD * FIELDS], text[TEXT], panel[HPLOG_PANEL], another[NAME];
 static hplog_writer begun, full, last;
 static hplog_listing listing;
 
@@ -83,7 +86,7 @@ static int run_add_name(void) {
     hplog_writer w = begun;
     w.names = NAMES - 1;
     w.dictionary = dictionary_len - 4 - NAME;
-    return hplog_add_name(w, dictionary, dictionary_len, (const uint8_t *)"the last one", NAME).answer.number == 0;
+    return hplog_add_name(w, dictionary, dictionary_len, another, NAME).answer.number == 0;
 }
 static int run_add_entry(void) {
     hplog_writer w = begun;
@@ -113,23 +116,31 @@ static const struct {
 
 /* ---- what they are lent ---- */
 
+static void make_name(uint8_t *at, unsigned number) {
+    char name[NAME + 1];
+    snprintf(name, sizeof name, UNIT UNIT UNIT UNIT UNIT UNIT "name %07u", number);
+    memcpy(at, name, NAME);
+}
+
 static void make_names(void) {
     dictionary_len = 4 + (size_t)NAMES * (4 + NAME);
     dictionary = room(dictionary_len);
     put(dictionary, NAMES, 4);
     for (unsigned i = 0; i < NAMES; i++) {
         uint8_t *at = dictionary + 4 + (size_t)i * (4 + NAME);
-        char name[NAME + 1];
-        snprintf(name, sizeof name, "name %07u", i);
         put(at, i, 2);
         put(at + 2, NAME, 2);
-        memcpy(at + 4, name, NAME);
+        make_name(at + 4, i);
     }
+    make_name(another, NAMES);
 }
 
-/* An entry with as many fields as there may be: a long text first, then numbers and short texts in turn. */
+/* An entry with as many fields as there may be: a long text first, then numbers and short texts in turn. The text
+ * begins with a label's bytes and no character is cut at its end, nor at a hundred bytes. */
 static void make_entry(void) {
-    memset(text, 'x', sizeof text);
+    memset(text, 'x', HPLOG_PANEL);
+    for (size_t i = HPLOG_PANEL; i < sizeof text; i++)
+        text[i] = (uint8_t)UNIT[(i - HPLOG_PANEL) % (sizeof UNIT - 1)];
     for (unsigned i = 0; i < FIELDS; i++) {
         uint8_t *field = fields + HPLOG_FIELD * i;
         put(field, NAMES - 1 - i, 2);
@@ -200,7 +211,8 @@ static void *work(void *job) {
     return NULL;
 }
 
-/* How many bytes of the stack were used, by their paint; -1 where the call was refused. */
+/* How many bytes of the stack were used, by their paint, in whole words: a byte of the last one may be like the paint.
+ * -1 where the call was refused. */
 static long used_by(int (*run)(void)) {
     struct job job = {run, 0};
     pthread_attr_t attributes;
@@ -215,7 +227,7 @@ static long used_by(int (*run)(void)) {
     long left = 0;
     while (left < HPLOG_STACK && stack[left] == PAINT)
         left++;
-    return job.accepted ? HPLOG_STACK - left : -1;
+    return job.accepted ? HPLOG_STACK - left / 8 * 8 : -1;
 }
 
 int main(void) {
