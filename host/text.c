@@ -32,7 +32,7 @@ void text_name(FILE *to, const uint8_t *bytes, size_t length)
     }
 }
 
-/* The value of the character of so many bytes at the front of bytes, where they have its shape; else 0. */
+/* The value of the character of so many bytes at the front of bytes, where its tails follow; else 0. */
 static uint32_t joined(const uint8_t *bytes, size_t size)
 {
     uint32_t value = bytes[0] & (0x7Fu >> size);

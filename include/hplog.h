@@ -23,6 +23,9 @@
  *     15  label: the name is above 16 bytes (place 16), else its first byte that is not printable
  *     16  repair: there is no dictionary; place = the end of the last block
  *     17  a writer's call out of turn; place 0
+ *
+ * Names, strings and JSON texts, read or written, are UTF-8 by RFC 3629's table of byte sequences: no overlong forms,
+ * no surrogates (D800 to DFFF) and nothing above 10FFFF. One that isn't is 10 as a name and 11 as a field.
  */
 #ifndef HPLOG_H
 #define HPLOG_H

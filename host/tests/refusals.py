@@ -151,4 +151,16 @@ def falling(suite):
     suite.refused(["cat", log, book], 11, 4, book, "plain entries are wrong in block 1, byte 4 of its plain bytes")
 
 
-GROUPS = [opened, recovered, stops, books, entries, disagreeing, falling]
+def texts(suite):
+    """Texts beside RFC 3629's table: overlong forms, a surrogate, numbers above 10FFFF; as name, string and JSON."""
+    for text in (b"\xc0\x80", b"\xc1\xbf", b"\xe0\x9f\xbf", b"\xed\xa0\x80", b"\xf0\x8f\xbf\xbf", b"\xf4\x90\x80\x80", b"\xf5\x80\x80\x80"):
+        book = suite.path("name.plb", maker.book([], struct.pack("<IHH", 1, 0, len(text)) + text))
+        suite.refused(["names", book], 10, 8, book, "the plain dictionary is wrong, byte 8 of it")
+        for kind in (0, 5):
+            plain = struct.pack("<BBHBB", 0, 1, 0, kind, len(text)) + text
+            log = suite.path("text.hplog", maker.finished([(100, 100, 1, plain, b"x")], b"x")[0])
+            book = suite.path("text.plb", maker.book([plain], maker.names(["a"])))
+            suite.refused(["cat", log, book], 11, 2, book, "plain entries are wrong in block 0, byte 2 of its plain bytes")
+
+
+GROUPS = [opened, recovered, stops, books, entries, disagreeing, falling, texts]

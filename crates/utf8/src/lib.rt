@@ -183,7 +183,7 @@ fn last_end(s: &[u8], i: usize, j: usize) -> usize
     i + 3
 }
 
-// Past whole sequences from a place on where one of several bytes begins: many by vectors, else none.
+// Past whole sequences from a place on, by vectors; none where few bytes are left or the next is below 80 hex.
 fn past_run(s: &[u8], from: usize) -> usize
     requires { ⌜ from ≤ length (now s) ⌝ }
     ensures { λ r. ⌜ Passed (now (s .entry)) from r ⌝ }
@@ -198,13 +198,14 @@ fn past_run(s: &[u8], from: usize) -> usize
         return from;
     }
     let i = from - 3;
+    // never so after a whole sequence, but then no caller has to say that one stands there
     if goes_on(s, i) {
         return from;
     }
     last_end(s, i, past_windows(s, past_windows(s, i, 64), 16))
 }
 
-// Past the sequence at i, and past the run that it begins; 0 where no whole sequence stands there.
+// Past the sequence at i and the run that it begins; 0 where no whole sequence stands there.
 fn past_sequences(s: &[u8], i: usize) -> usize
     requires { ⌜ i < length (now s) ⌝ }
     ensures { λ r. ⌜ Stepped (utf8Of (drop i (now (s .entry)))) (now (s .entry)) i r ⌝ }
