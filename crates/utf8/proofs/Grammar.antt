@@ -100,20 +100,21 @@ widers-spell (low to high ∷ rs) (l to h ∷ qs) w (b ∷ c) u =
     let o = and-true (leb l low) (leb high h) (p .0) in
     (omega (arith, u .0, leb-true l low (o .0)), omega (arith, u .1, leb-true high h (o .1)), widers-spell rs qs (p .1) c (u .2))
 
-record Cover (row : Sequence) (table : List Sequence) (c : List ℕ) : Type 0 where
+-- a row of a table spells these bytes
+record Cover (table : List Sequence) (c : List ℕ) : Type 0 where
   first : Range
   rest : List Range
   there : List·Memᴰ (sequence first rest) table
   spells : Spells (first ∷ rest) c
 
 cover : (first : Range) (rest : List Range) (table : List Sequence) → covered (sequence first rest) table ≡ true → (c : List ℕ)
-    → Spells (first ∷ rest) c → Cover (sequence first rest) table c
+    → Spells (first ∷ rest) c → Cover table c
 unfolding covered
 cover first rest [] e c u = absurd (false≢true e)
 cover first rest (sequence f r ∷ rows) e c u = go (widers (first ∷ rest) (f ∷ r)) refl (λ h. cover first rest rows h c u)
   where
-    go : (t : Bool) → widers (first ∷ rest) (f ∷ r) ≡ t → (covered (sequence first rest) rows ≡ true → Cover (sequence first rest) rows c)
-        → Cover (sequence first rest) (sequence f r ∷ rows) c
+    go : (t : Bool) → widers (first ∷ rest) (f ∷ r) ≡ t → (covered (sequence first rest) rows ≡ true → Cover rows c)
+        → Cover (sequence f r ∷ rows) c
     go true w h = record { first = f; rest = r; there = List·Memᴰ·head refl; spells = widers-spell (first ∷ rest) (f ∷ r) w c u }
     go false w h =
         let k = h (rw w at e) in

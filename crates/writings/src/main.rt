@@ -12,7 +12,7 @@
 //   entry ROOM TIME HEX          entered; the bytes are the field count and the fields as they stand in a payload
 //   entry-count ROOM TIME COUNT  the same of an entry of so many nulls of name 0, up to 2,730; those behind 255 are of no meaning
 //   entry-part ROOM TIME ID PLACE LENGTH HEX    the same of an entry with one string, at a place in the text given
-//   entry-text ROOM TIME TYPE HEX               the same of an entry of the whole number 1 and a text of that type, both of name 0
+//   entry-text ROOM TIME TYPE HEX               the same of the whole number 1 and a text of that type, of name 0 both
 //   block ROWS ROOM START NAMES PLAIN STORED    as begin; ROWS is how much of the rows is lent
 //   blocks N                     the last answer of N blocks of one entry of no fields, each at the end of the one before
 //   close ROOM PLAIN STORED      as begin
