@@ -1,7 +1,7 @@
 // What the calls of the C edge answer: numbers alone, by value.
 ghost use mathlib.Core.Path.{_≡_};
 ghost use Rattle.verdict.specs.Rules.{given, refused};
-ghost use Rattle.answer.specs.Answer.{answered};
+ghost use Rattle.answer.specs.Answer.{answered, flagOf};
 use verdict::Refusal;
 
 // The number is 0 where the call was accepted, and the count is then what the call says; on a refusal it is 0.
@@ -36,4 +36,14 @@ pub fn refused(w: Refusal) -> Answer
     ensures { λ r. ⌜ r ≡ answered (refused (w .number) (w .place)) ⌝ }
 {
     refuse(w.number, w.place)
+}
+
+// 1 for what is so, else 0.
+pub fn flag(holds: bool) -> u64
+    ensures { λ r. ⌜ r ≡ flagOf holds ⌝ }
+{
+    if holds {
+        return 1;
+    }
+    0
 }

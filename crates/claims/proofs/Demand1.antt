@@ -12,7 +12,7 @@ use Rattle.recovery.specs.Recovery.{recoverOf, recoverOut}
 use Rattle.recovery.specs.Recovery as recovery
 use Rattle.repair.specs.Repair.{repairRules, repairOf, repairOut}
 use Rattle.query.specs.Query.{queryRules, queryOf, queryOut}
-use Rattle.label.specs.Label.{labelOut}
+use Rattle.label.specs.Label.{labelRules, labelOf, labelOut}
 use Rattle.writer.specs.declared.state.Writer.{Writer}
 use Rattle.writer.specs.Begin.{beginRules, beginOf, beginOut}
 use Rattle.writer_names.specs.Name.{nameRules, nameOf, nameOut}
@@ -38,7 +38,7 @@ call-refused w (close t plain stored out) n p e =
     rw (broken-by (firstBroken (closeRules w t plain stored (length out))) _ n p e) (refl, refl, refl, refl)
 
 pub refusals-leave : RefusalsLeave
-unfolding openOf openOut recoverOf recoverOut repairOf repairOut queryOf queryOut labelOut
+unfolding openOf openOut recoverOf recoverOut repairOf repairOut queryOf queryOut labelOf labelOut
 refusals-leave =
     record {
       writer = call-refused;
@@ -46,5 +46,5 @@ refusals-leave =
       recovers = λ f table n p e. rw (settle-refused (firstBroken (recovery.callRules f (length table))) _ n p (sym e));
       repairs = λ f lent out n p e. rw (settle-refused (firstBroken (repairRules f lent (length out))) _ n p (sym e));
       queries = λ rows t1 t2 numbers n p e. rw (settle-refused (firstBroken (queryRules rows t1 t2 (length numbers))) _ n p (sym e));
-      labels = λ name panel n p e. rw e;
+      labels = λ name panel n p e. rw (settle-refused (firstBroken (labelRules name (length panel))) _ n p (sym e));
     }

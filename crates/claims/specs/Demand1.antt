@@ -27,4 +27,4 @@ pub record RefusalsLeave : Type 0 where
       → repairOut f lent out ≡ out
   pub queries : (rows : List IndexRow) (t1 t2 : Epoch) (numbers : List ℕ) (n p : ℕ)
       → queryOf rows t1 t2 (length numbers) ≡ refused n p → queryOut rows t1 t2 numbers ≡ numbers
-  pub labels : (name panel : List ℕ) (n p : ℕ) → labelOf name (length panel) ≡ broken n p → labelOut name panel ≡ panel
+  pub labels : (name panel : List ℕ) (n p : ℕ) → labelOf name (length panel) ≡ refused n p → labelOut name panel ≡ panel

@@ -6,7 +6,7 @@ use mathlib.Core.List.{List, [], _∷_, _++_}
 use Prim.Native.Nat.{ℕ}
 use lib.IntN.{negsuc}
 use lib.ListN.{length, take, replicate}
-use Rattle.verdict.specs.Rules.{Verdict, sound, broken, given}
+use Rattle.verdict.specs.Rules.{Verdict, sound, broken, Outcome, given, refused}
 use Rattle.wire.specs.Wire.{le}
 use Rattle.parts.specs.declared.IndexRow.{IndexRow}
 use Rattle.parts.specs.declared.time.Epoch.{Epoch}
@@ -131,7 +131,7 @@ abbrev letters : ℕ → List ℕ
 letters n = replicate n 0x41
 
 -- a label in a panel of zeros: what it answers, and what the panel is then
-abbrev Labels : (s : List ℕ) → Verdict → List ℕ → Type 0
+abbrev Labels : (s : List ℕ) → Outcome Bool → List ℕ → Type 0
 Labels s v after = (labelOf s 16 ≡ v) × (labelOut s (zeros 16) ≡ after)
 
 pub record Worked : Type 0 where
@@ -161,7 +161,7 @@ pub record Worked : Type 0 where
   pub k7 : (belongsTo (time 30_000_000_999) (time 1000) ≡ true)
       × (belongsTo (time 30_000_001_000) (time 1000) ≡ false)
   -- "label of 16 letters / of 17: the 16 / 15, place 16", which leaves the panel as it was
-  pub k8 : Labels (letters 16) sound (letters 16) × Labels (letters 17) (broken 15 16) (zeros 16)
+  pub k8 : Labels (letters 16) (given false) (letters 16) × Labels (letters 17) (refused 15 16) (zeros 16)
   -- "small file cut at 102 / at 103, header not yet closed: no block / one block"
   pub k9 : (recoverOf (diskOf 102 smallAdded) 28 ≡ given noBlock)
       × (recoverOf (diskOf 103 smallAdded) 28 ≡ given (oneBlock false))

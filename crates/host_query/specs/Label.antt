@@ -1,11 +1,11 @@
 -- The label at the C edge: the library's own, with its answer as numbers. Assumes nothing.
 use mathlib.Core.List.{List}
 use Prim.Native.Nat.{ℕ}
-use Rattle.verdict.specs.Rules.{settle}
+use Rattle.verdict.specs.Rules.{given, onGiven}
 use Rattle.label.specs.Label.{labelOf}
 use Rattle.answer.specs.declared.Answer.{Answer}
-use Rattle.answer.specs.Answer.{answered}
+use Rattle.answer.specs.Answer.{answered, flagOf}
 
--- "0 for the label"
+-- count: 1 for a shortened name, else 0
 unfoldable pub hostLabelOf : (name : List ℕ) (room : ℕ) → Answer
-hostLabelOf name room = answered (settle (labelOf name room) 0)
+hostLabelOf name room = answered (onGiven (labelOf name room) (λ shortened. given (flagOf shortened)))

@@ -76,6 +76,6 @@ pub extern "C" fn hplog_label(name: &[u8], panel: &mut [u8]) -> Answer
     let r = label::label(name, panel);
     match r {
         Labelled::Refused(w) => answer::refused(w),
-        Labelled::Written => answer::accepted(0),
+        Labelled::Written(shortened) => answer::accepted(answer::flag(shortened)),
     }
 }

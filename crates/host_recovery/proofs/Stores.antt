@@ -7,7 +7,8 @@ use Rattle.verdict.specs.Rules.{Verdict}
 use Rattle.wire.specs.Wire.{splice}
 use Rattle.parts.specs.Parts.{Field, field, spelled}
 use Rattle.parts.proofs.Fields.{Stored, stored}
-use Rattle.host_recovery.specs.Recover.{stopNumber, stopPlace, flagOf, reportBytes}
+use Rattle.answer.specs.Answer.{flagOf}
+use Rattle.host_recovery.specs.Recover.{stopNumber, stopPlace, reportBytes}
 
 abbrev pub reportFields : (end number place whole : ℕ) → List Field
 reportFields end number place whole = field 8 end ∷ field 8 number ∷ field 8 place ∷ field 8 whole ∷ []

@@ -1,5 +1,5 @@
 -- Recovery at the C edge. Assumes nothing.
-use mathlib.Core.Bool.{Bool, true, false}
+use mathlib.Core.Bool.{Bool}
 use mathlib.Core.List.{List, [], _∷_, _++_}
 use Prim.Native.Nat.{ℕ}
 use lib.ListN.{length}
@@ -8,7 +8,7 @@ use Rattle.wire.specs.Wire.{le, splice}
 use Rattle.rows.specs.Rows.{tableBytes}
 use Rattle.recovery.specs.Recovery.{reportOf, callRules}
 use Rattle.answer.specs.declared.Answer.{Answer}
-use Rattle.answer.specs.Answer.{answered}
+use Rattle.answer.specs.Answer.{answered, flagOf}
 
 -- "number and place that stopped it", 0 for a clean end
 abbrev pub stopNumber : Verdict → ℕ
@@ -18,11 +18,6 @@ stopNumber (broken n p) = n
 abbrev pub stopPlace : Verdict → ℕ
 stopPlace sound = 0
 stopPlace (broken n p) = p
-
--- "1 or 0 for a whole dictionary"
-abbrev pub flagOf : Bool → ℕ
-flagOf true = 1
-flagOf false = 0
 
 -- "four u64: end of the last whole block, number and place that stopped it, 1 or 0 for a whole dictionary"
 unfoldable pub reportBytes : (end : ℕ) (stop : Verdict) (whole : Bool) → List ℕ

@@ -9,7 +9,8 @@ ghost use Rattle.wire.specs.Wire.{splice};
 ghost use Rattle.recovery.specs.Recovery.{reportOf, callRules};
 ghost use Rattle.repair.specs.Repair.{repairOut};
 ghost use Rattle.answer.specs.Answer.{answered};
-ghost use Rattle.host_recovery.specs.Recover.{stopNumber, stopPlace, flagOf, reportBytes, hostRecoverOf, hostRecoverRows, hostRecoverReport};
+ghost use Rattle.host_recovery.specs.Recover.{stopNumber, stopPlace, reportBytes};
+ghost use Rattle.host_recovery.specs.Recover.{hostRecoverOf, hostRecoverRows, hostRecoverReport};
 ghost use Rattle.host_recovery.specs.Repair.{hostRepairOf};
 use answer::Answer;
 use recovery::Recovered;
@@ -33,15 +34,6 @@ fn stop_of(stop: Checked) -> Refusal
     }
 }
 
-fn flag_of(whole: bool) -> u64
-    ensures { λ r. ⌜ r ≡ flagOf whole ⌝ }
-{
-    if whole {
-        return 1;
-    }
-    0
-}
-
 fn put_report(out: &mut [u8], report: Report)
     ensures { λ _. ⌜ now (out .exit) ≡ splice (now (out .entry)) 0 (reportBytes (report .end) (verdictOf (report .stop)) (report .whole)) ⌝ }
 {
@@ -50,7 +42,7 @@ fn put_report(out: &mut [u8], report: Report)
     wire::put_u64(out, 0, report.end);
     wire::put_u64(out, 8, w.number as u64);
     wire::put_u64(out, 16, w.place);
-    wire::put_u64(out, 24, flag_of(report.whole));
+    wire::put_u64(out, 24, answer::flag(report.whole));
 }
 
 // What recovery answers where the report has no room: what is wrong with the header and with the room of the rows comes first.

@@ -1,5 +1,5 @@
 -- Laws of the label's rules and bytes. Assumes nothing.
-use mathlib.Core.Path.{_≡_, sym, ap, _∙_}
+use mathlib.Core.Path.{_≡_, refl, sym, ap, _∙_}
 use mathlib.Core.Bool.{true, false}
 use mathlib.Core.List.{List, [], _∷_, _++_}
 use Prim.Native.Nat.{ℕ, zero, suc, _+_, _-_, _≤_, _<_}
@@ -11,9 +11,9 @@ use lib.Seq.{drop-cons, take-all}
 use borrow.Author.Tests.{le-leb, lt-leb}
 use Rattle.wire.specs.Wire.{splice}
 use Rattle.wire.proofs.Splices.{splice-join}
-use Rattle.verdict.specs.Rules.{atLeast, sound, broken, firstBroken}
+use Rattle.verdict.specs.Rules.{atLeast, sound, broken, firstBroken, given, refused}
 use Rattle.verdict.proofs.Laws.{flag-holds, flag-breaks, most-holds, most-breaks, least-holds, least-breaks, then-sound, then-broken}
-use Rattle.label.specs.Label.{printable, printRules, labelRules, labelOf, labelBytes, labelOut}
+use Rattle.label.specs.Label.{printable, printRules, labelRules, shortened, labelOf, padded, labelBytes, labelOut}
 use Rattle.label.specs.Inner.{Printable}
 
 -- ---- printable bytes
@@ -46,35 +46,44 @@ module _ (name : List ℕ) (i : ℕ) where
   unfolding printRules firstBroken
   print-end h = rw (drop-of-length-le name h)
 
--- ---- the verdict, by what was found
+-- ---- the rules, by what was found
 
-pub label-long : (name : List ℕ) (room : ℕ) → 16 < length name → labelOf name room ≡ broken 15 16
-unfolding labelOf labelRules
+pub label-long : (name : List ℕ) (room : ℕ) → 16 < length name → firstBroken (labelRules name room) ≡ broken 15 16
+unfolding labelRules
 label-long name room h = most-breaks 15 16 _ (length name) 16 h
 
 module _ (name : List ℕ) (p room : ℕ) (short : length name ≤ 16) (found : Printable name p) where
-  label-rest : labelOf name room ≡ firstBroken (printRules 0 name ++ (atLeast 12 16 room 16 ∷ []))
-  unfolding labelOf labelRules
+  label-rest : firstBroken (labelRules name room) ≡ firstBroken (printRules 0 name ++ (atLeast 12 16 room 16 ∷ []))
+  unfolding labelRules
   label-rest = most-holds 15 16 _ (length name) 16 short
 
-  pub label-unprintable : p < length name → labelOf name room ≡ broken 15 p
+  pub label-unprintable : p < length name → firstBroken (labelRules name room) ≡ broken 15 p
   label-unprintable h = label-rest ∙ then-broken _ _ 15 p (sym (found .before) ∙ print-stop name p h (found .stops h))
 
-  all-print : length name ≤ p → labelOf name room ≡ firstBroken (atLeast 12 16 room 16 ∷ [])
+  all-print : length name ≤ p → firstBroken (labelRules name room) ≡ firstBroken (atLeast 12 16 room 16 ∷ [])
   all-print h = label-rest ∙ then-sound _ _ (sym (found .before) ∙ print-end name p h)
 
-  pub label-no-room : length name ≤ p → room < 16 → labelOf name room ≡ broken 12 16
+  pub label-no-room : length name ≤ p → room < 16 → firstBroken (labelRules name room) ≡ broken 12 16
   label-no-room h r = all-print h ∙ least-breaks 12 16 [] room 16 r
 
-  pub label-fits : length name ≤ p → 16 ≤ room → labelOf name room ≡ sound
+  pub label-fits : length name ≤ p → 16 ≤ room → firstBroken (labelRules name room) ≡ sound
   unfolding firstBroken
   label-fits h r = all-print h ∙ least-holds 12 16 [] room 16 r
 
--- ---- the panel
+-- ---- the answer and the panel
 
-pub panel-kept : (name panel : List ℕ) (n p : ℕ) → labelOf name (length panel) ≡ broken n p → panel ≡ labelOut name panel
-unfolding labelOut
-panel-kept name panel n p e = rw e
+module _ (name panel : List ℕ) where
+  pub label-refused : (n p : ℕ) → firstBroken (labelRules name (length panel)) ≡ broken n p
+      → (refused n p ≡ labelOf name (length panel)) × (panel ≡ labelOut name panel)
+  unfolding labelOf labelOut
+  label-refused n p e = (rw e, rw e)
+
+  pub label-whole : firstBroken (labelRules name (length panel)) ≡ sound
+      → (given false ≡ labelOf name (length panel)) × (splice panel 0 (padded name) ≡ labelOut name panel)
+  unfolding labelOf labelOut labelBytes shortened
+  label-whole e = (rw e, rw e)
+
+-- ---- what is put, one part after the other
 
 drop-replicate : (m n x : ℕ) → drop m (replicate n x) ≡ replicate (n - m) x
 drop-replicate zero n x = rw sub-zero
@@ -82,15 +91,20 @@ drop-replicate (suc m) zero x = rw zero-sub
 drop-replicate (suc m) (suc n) x = rw suc-sub-suc (drop-replicate m n x)
 
 -- the spaces from a place on, as a part of sixteen
-pub spaces-from : (from : ℕ) → take {A = ℕ} (16 - from) (drop from (replicate 16 0x20)) ≡ replicate (16 - from) 0x20
+spaces-from : (from : ℕ) → take {A = ℕ} (16 - from) (drop from (replicate 16 0x20)) ≡ replicate (16 - from) 0x20
 spaces-from from =
     let spaces : List ℕ = replicate 16 0x20 in
     let e : length (drop from spaces) ≤ 16 - from = rw (drop-replicate from 16 0x20, length-replicate) (omega arith) in
     take-all (16 - from) (drop from spaces) e ∙ drop-replicate from 16 0x20
 
-pub panel-written : (name panel : List ℕ) → labelOf name (length panel) ≡ sound
-    → splice (splice panel 0 name) (length name) (replicate (16 - length name) 0x20) ≡ labelOut name panel
-unfolding labelOut labelBytes
-panel-written name panel e =
-    let z : length name ≡ 0 + length name = omega arith in
-    rw e (ap (λ (k : ℕ). splice (splice panel 0 name) k (replicate (16 - length name) 0x20)) z ∙ splice-join panel name (replicate (16 - length name) 0x20) 0)
+-- bytes laid after those at the front
+after-front : (panel xs ys : List ℕ) (n : ℕ) → length xs ≡ n → splice (splice panel 0 xs) n ys ≡ splice panel 0 (xs ++ ys)
+after-front panel xs ys n e =
+    let z : n ≡ 0 + length xs = omega arith in
+    rw z (splice-join panel xs ys 0)
+
+pub panel-padded : (name panel one two : List ℕ) → one ≡ splice panel 0 name
+    → two ≡ splice one (length name) (take (16 - length name) (drop (length name) (replicate 16 0x20)))
+    → two ≡ splice panel 0 (padded name)
+unfolding padded
+panel-padded name panel one two e f = rw (f, e, spaces-from (length name)) (after-front panel name _ (length name) refl)

@@ -1,8 +1,9 @@
 -- What the answer says, in the paper's numbers. Assumes nothing.
-use Rattle.verdict.specs.Rules.{Verdict, sound, broken}
+use mathlib.Core.Bool.{Bool}
+use Rattle.verdict.specs.Rules.{Outcome, given, refused}
 use Rattle.label.specs.declared.Labelled.{Labelled}
 use Rattle.label.specs.declared.Labelled.the-variants.{Written, Refused}
 
-abbrev pub labelledOf : Labelled → Verdict
-labelledOf Written = sound
-labelledOf (Refused r) = broken (r .number) (r .place)
+abbrev pub labelledOf : Labelled → Outcome Bool
+labelledOf (Written shortened) = given shortened
+labelledOf (Refused r) = refused (r .number) (r .place)

@@ -1,12 +1,12 @@
 -- The panel label. Assumes nothing.
 -- Document 01: "The panel label is sixteen bytes: a name of at most sixteen bytes, all from 20 to 7E hex, then spaces."
 use Prim.Native.Nat.{ℕ, suc, _-_}
-use mathlib.Core.Bool.{Bool, _&&_}
+use mathlib.Core.Bool.{Bool, false, _&&_}
 use mathlib.Core.List.{List, [], _∷_, _++_}
 use lib.Dec.{leb}
 use lib.ListN.{length, replicate}
 use Rattle.wire.specs.Wire.{splice}
-use Rattle.verdict.specs.Rules.{Rule, flag, atLeast, atMost, Verdict, sound, broken, firstBroken}
+use Rattle.verdict.specs.Rules.{Rule, flag, atLeast, atMost, ifSound, firstBroken, Outcome, settle}
 
 unfoldable pub printable : ℕ → Bool
 printable b = leb 0x20 b && leb b 0x7E
@@ -20,17 +20,21 @@ printRules i (b ∷ s) = flag 15 i (printable b) ∷ printRules (suc i) s
 unfoldable pub labelRules : List ℕ → ℕ → List Rule
 labelRules name room = atMost 15 16 (length name) 16 ∷ (printRules 0 name ++ (atLeast 12 16 room 16 ∷ []))
 
-unfoldable pub labelOf : List ℕ → ℕ → Verdict
-labelOf name room = firstBroken (labelRules name room)
+-- whether the label has less than the name
+unfoldable pub shortened : List ℕ → Bool
+shortened name = false
+
+-- what is handed back
+unfoldable pub labelOf : List ℕ → ℕ → Outcome Bool
+labelOf name room = settle (firstBroken (labelRules name room)) (shortened name)
 
 -- the name, then spaces
+unfoldable pub padded : List ℕ → List ℕ
+padded name = name ++ replicate (16 - length name) 0x20
+
 unfoldable pub labelBytes : List ℕ → List ℕ
-labelBytes name = name ++ replicate (16 - length name) 0x20
+labelBytes name = padded name
 
 -- the panel afterwards: the label at its front, or what it was
-abbrev pub shown : Verdict → List ℕ → List ℕ → List ℕ
-shown sound name panel = splice panel 0 (labelBytes name)
-shown (broken n p) name panel = panel
-
 unfoldable pub labelOut : List ℕ → List ℕ → List ℕ
-labelOut name panel = shown (labelOf name (length panel)) name panel
+labelOut name panel = ifSound (firstBroken (labelRules name (length panel))) (splice panel 0 (labelBytes name)) panel

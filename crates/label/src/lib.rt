@@ -1,15 +1,16 @@
 // The panel label of a name. A refusal leaves the panel as it was.
 ghost use mathlib.Core.Path.{_≡_};
-ghost use Prim.Native.Nat.{_-_, _≤_};
-ghost use lib.ListN.{length, replicate};
+ghost use Prim.Native.Nat.{_≤_};
+ghost use lib.ListN.{length};
 ghost use Rattle.wire.specs.Wire.{splice};
-ghost use Rattle.label.specs.Label.{labelOf, labelOut};
+ghost use Rattle.label.specs.Label.{padded, labelOf, labelOut};
 ghost use Rattle.label.specs.Answer.{labelledOf};
 ghost use Rattle.label.specs.Inner.{Printable};
 use verdict::Refusal;
 
 pub enum Labelled {
-    Written,
+    // whether the label is a shortened name
+    Written(bool),
     Refused(Refusal),
 }
 
@@ -37,13 +38,15 @@ fn first_unprintable(name: &[u8]) -> usize
     i
 }
 
-// Spaces from a place of the label to its end.
-fn pad(panel: &mut [u8], from: usize)
-    requires { ⌜ from ≤ 16 ⌝ }
-    ensures { λ _. ⌜ now (panel .exit) ≡ splice (now (panel .entry)) from (replicate (16 - from) 0x20) ⌝ }
+// Puts a name of at most sixteen bytes, then spaces.
+fn pad(panel: &mut [u8], name: &[u8])
+    requires { ⌜ length (now name) ≤ 16 ⌝ }
+    ensures { λ _. ⌜ now (panel .exit) ≡ splice (now (panel .entry)) 0 (padded (now (name .entry))) ⌝ }
 {
+    let n = name.len();
     let spaces = [b' '; 16];
-    wire::copy_at(panel, from, &spaces[from..]);
+    wire::copy_at(panel, 0, name);
+    wire::copy_at(panel, n, &spaces[n..]);
 }
 
 // Puts the label of a name into the first sixteen bytes of a panel; a longer panel keeps the rest.
@@ -61,7 +64,6 @@ pub fn label(name: &[u8], panel: &mut [u8]) -> Labelled
     if panel.len() < 16 {
         return refuse(12, 16);
     }
-    wire::copy_at(panel, 0, name);
-    pad(panel, n);
-    Labelled::Written
+    pad(panel, name);
+    Labelled::Written(false)
 }

@@ -246,6 +246,6 @@ unfolding label.printRules allListed numberOf
 print-numbered i [] = refl
 print-numbered i (b ∷ s) = print-numbered (suc i) s
 
-pub label-listed : (name : List ℕ) (room : ℕ) → Listed (label.labelOf name room)
+pub label-listed : (name : List ℕ) (room : ℕ) → Listed (verdictIn (label.labelOf name room))
 unfolding label.labelOf label.labelRules allListed numberOf
-label-listed name room = first-listed (label.labelRules name room) (both (label.printRules 0 name) _ (print-numbered 0 name) refl)
+label-listed name room = settled (label.labelRules name room) _ (both (label.printRules 0 name) _ (print-numbered 0 name) refl)

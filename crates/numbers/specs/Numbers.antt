@@ -125,7 +125,7 @@ pub record TableNumbers : Type 0 where
   pub names : (s : List ℕ) → Listed (verdictIn (dictionaryOf s))
   pub lookup : (s : List ℕ) (i : ℕ) → Listed (verdictIn (lookupOf s i))
   pub seek : (s n : List ℕ) → Listed (verdictIn (seekOf s n))
-  pub label : (name : List ℕ) (room : ℕ) → Listed (labelOf name room)
+  pub label : (name : List ℕ) (room : ℕ) → Listed (verdictIn (labelOf name room))
   -- whole files: opening without and with a table, recovery without and with one and what stopped it, repair
   pub check : (f : List ℕ) → Listed (firstBroken (openRules crc32 f))
   pub opens : (f : List ℕ) (room : ℕ) → Listed (verdictIn (openOf f room))
@@ -172,7 +172,7 @@ pub record TableNumbers : Type 0 where
   pub hplog-dictionary : (log frame : List ℕ) → hostDictionaryOf log frame .number ≡ 0
   -- the C edge, plain bytes: the label, the dictionary, a name in it, the one at a place, which is never refused, and a
   -- name's number, the reading steps, a block
-  pub hplog-label : (name : List ℕ) (room : ℕ) → Returns (labelOf name room) (hostLabelOf name room .number)
+  pub hplog-label : (name : List ℕ) (room : ℕ) → Returns (verdictIn (labelOf name room)) (hostLabelOf name room .number)
   pub hplog-names : (s : List ℕ) → Returns (verdictIn (dictionaryOf s)) (hostNamesOf s .number)
   pub hplog-name : (s : List ℕ) (i : ℕ) → Returns (verdictIn (lookupOf s i)) (hostNameOf s i .number)
   pub hplog-name-at : (s : List ℕ) (at : ℕ) → hostNameAtOf s at .number ≡ 0

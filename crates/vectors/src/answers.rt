@@ -67,7 +67,12 @@ fn labelled(l: Labelled, out: &mut [u8]) -> usize
     ensures { λ r. ⌜ Counts r (now (out .exit)) ⌝ }
 {
     match l {
-        Labelled::Written => text::with(out, 0, b"written"),
+        Labelled::Written(shortened) => {
+            if shortened {
+                return text::with(out, 0, b"shortened");
+            }
+            text::with(out, 0, b"written")
+        }
         Labelled::Refused(r) => text::with_refusal(out, r),
     }
 }

@@ -12,12 +12,13 @@ returns c =
 
 returns-2 : tie.Need-returns-2
 returns-2 c =
-    let k = c .before in
+    let f = c .before in
+    let k = f .before .before in
     let o = k .before .before .before .before in
-    (label-gives _ _ _ (rw (k .enum-told .given .1) at (o .label .ensures .0)) (c .accepted .ensures), o .label .ensures .1)
+    (label-gives _ _ _ _ _ (rw (k .r2 .given .1) at (o .label .ensures .0)) (f .flag .ensures) (c .accepted .ensures), o .label .ensures .1)
 
 pub hplog-label-spec : {M : Type 1} → statement M
 hplog-label-spec =
     tie.close
-    (tie.spec (λ c κs. search needs) (λ c. search needs) (λ c κs. search needs) (λ c. search needs) (λ c κs. search needs) (λ c. search needs) returns
-    (λ c. search needs) returns-2)
+    (tie.spec (λ c κs. search needs) (λ c. search needs) (λ c κs. search needs) (λ c. search needs) (λ c κs. search needs) (λ c κs. search needs)
+    (λ c. search needs) returns (λ c. search needs) returns-2)

@@ -13,7 +13,7 @@ returns c =
     let p2 = p3 .before .before .before .before in
     let p1 = p2 .before .before .before .before .before in
     let s = p1 .before .before in
-    report-stored _ _ _ _ _ _ (s .stop-of .ensures .0) (s .stop-of .ensures .1) (g .flag-of .ensures)
+    report-stored _ _ _ _ _ _ (s .stop-of .ensures .0) (s .stop-of .ensures .1) (g .flag .ensures)
     (p1 .put-u64 .ensures ▸ p2 .put-u642 .ensures ▸ p3 .put-u643 .ensures ▸ p4 .put-u644 .ensures ▸ done)
 
 pub put-report-spec : {M : Type 1} → statement M
