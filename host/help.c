@@ -80,9 +80,12 @@ const char help_label[] =
     "usage: hplog label [--plain] NAME\n"
     "\n"
     "Shows a name as the sixteen bytes of a panel, filled up with spaces, between\n"
-    "bars. A NAME that starts with '-' stands behind '--'.\n"
+    "bars. Of a longer name the first eight bytes, a '~' and the last seven are\n"
+    "shown, and 'shortened' after the bars. A NAME that starts with '-' stands after\n"
+    "'--'.\n"
     "\n"
-    "--plain prints the sixteen bytes without the bars.\n";
+    "--plain prints the sixteen bytes without the bars, and then:\n"
+    "  shortened FLAG                                      (1 shortened or 0)\n";
 
 const char help_cat[] =
     "usage: hplog cat [--plain] FILE BOOK\n"

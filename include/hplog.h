@@ -20,7 +20,7 @@
  *     12  a lent output is too small; place = the bytes needed
  *     13  T1 is above T2 (place T1); the writer's time goes back or leaves the block (place = that time)
  *     14  no such name or block; place = the number asked
- *     15  label: the name is above 16 bytes (place 16), else its first byte that is not printable
+ *     15  label: a byte of the name is not printable, not from 20 to 7E hex; place = the first such byte of the name
  *     16  repair: there is no dictionary; place = the end of the last block
  *     17  a writer's call out of turn; place 0
  *
@@ -82,8 +82,10 @@ hplog_answer hplog_recover(const uint8_t *log, size_t log_len, uint8_t *rows, si
  * count; where the lent dictionary is needed (6, its length) above 32 bits, then 16 for an empty one; 12. */
 hplog_answer hplog_repair(const uint8_t *log, size_t log_len, const uint8_t *dictionary, size_t dictionary_len, uint8_t *out, size_t out_len);
 
-/* Writes a name as a panel's sixteen bytes, filled up with spaces; count = 0. Bytes of panel past the sixteenth stay as they are.
- * Refusals in order: 15; 12. */
+/* Writes a name as a panel's sixteen bytes: one of at most sixteen, filled up with spaces (count = 0); of a longer
+ * one the first eight bytes, '~' and the last seven (count = 1, shortened). A name may have any length, and also a '~'.
+ * Bytes of panel past the sixteenth stay as they are.
+ * Refusals in order: 15, also for a byte that would not show; 12. */
 hplog_answer hplog_label(const uint8_t *name, size_t name_len, uint8_t *panel, size_t panel_len);
 
 /* ---- blocks and stored bytes ---- */

@@ -160,11 +160,17 @@ def names(suite):
 
 def labels(suite):
     suite.expect(["label", "site"], out=b"|site            |\n")
-    suite.expect(["label", "--plain", "site"], out=b"site            \n")
+    suite.expect(["label", "--plain", "site"], out=b"site            \nshortened 0\n")
     suite.expect(["label", ""], out=b"|                |\n")
     suite.expect(["label", "--", "--plain"], out=b"|--plain         |\n")
     suite.expect(["label", "abcdefghijklmnop"], out=b"|abcdefghijklmnop|\n")
-    suite.refused(["label", "abcdefghijklmnopq"], 15, 16, "abcdefghijklmnopq", "the name is longer than 16 bytes")
+    suite.expect(["label", "abcdefghijklmnopq"], out=b"|abcdefgh~klmnopq| shortened\n")
+    suite.expect(["label", "--plain", "abcdefghijklmnopq"], out=b"abcdefgh~klmnopq\nshortened 1\n")
+    suite.expect(["label", "SN-2026-0007-ABCDEFGHIJKLMNOPQ"], out=b"|SN-2026-~KLMNOPQ| shortened\n")
+    suite.expect(["label", "xxxxxxxxxxxxxxx~"], out=b"|xxxxxxxxxxxxxxx~|\n")
+    suite.expect(["label", "--plain", "xxxxxxxxxxxxxxx~"], out=b"xxxxxxxxxxxxxxx~\nshortened 0\n")
+    hidden = "abcdefghi\u00e9lmnopqrstuv"
+    suite.refused(["label", hidden], 15, 9, hidden, "byte 9 of the name is not printable")
     suite.refused(["label", "ab\x1bd"], 15, 2, "ab\\x1Bd", "byte 2 of the name is not printable")
 
 

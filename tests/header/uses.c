@@ -118,7 +118,8 @@ static void bounds(void) {
     check(accepted(calls.add_entry(written.next, plain, sizeof plain, 30000000999u, letters, 0, letters, 0).answer, 0), "K7, same block");
     check(refused(calls.add_entry(written.next, plain, sizeof plain, 30000001000u, letters, 0, letters, 0).answer, 13, 30000001000u), "K7, next block");
     check(accepted(calls.label(letters, 16, panel, sizeof panel), 0) && memcmp(panel, letters, 16) == 0, "K8, 16 letters");
-    check(refused(calls.label(letters, 17, panel, sizeof panel), 15, 16), "K8, 17 letters");
+    check(accepted(calls.label(letters, 17, panel, sizeof panel), 1), "K8, 17 letters");
+    check(memcmp(panel, "abcdefgh~klmnopq", sizeof panel) == 0, "K8, what is shown of them");
 }
 
 /* K4 to K6 and K9: the paper's small file, written, opened, searched, repaired, read and listed. */

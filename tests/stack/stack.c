@@ -14,6 +14,7 @@
 #define UNIT "xxx\xC3\xA9\xE2\x82\xAC\xF0\x9F\x98\x80"
 
 enum { NAMES = 65535, NAME = 84, STORED = 1 << 20, FIELDS = 255, TEXT = 1 << 16, PAINT = 0xA5, PAGE = 4096 };
+enum { SERIAL = 28 }; /* bytes of a name that a label shortens */
 
 /* What the calls are lent. */
 static uint8_t *dictionary, *log_bytes, *cut, *out, *plain, *book, *stored;
@@ -47,7 +48,7 @@ static int run_recover(void) {
     return hplog_recover(cut, cut_len, rows, sizeof rows, report, sizeof report).number == 0;
 }
 static int run_repair(void) { return hplog_repair(cut, cut_len, stored, 1, out, out_len).number == 0; }
-static int run_label(void) { return hplog_label(text, HPLOG_PANEL, panel, sizeof panel).number == 0; }
+static int run_label(void) { return hplog_label(text, SERIAL, panel, sizeof panel).number == 0; }
 static int run_block(void) { return hplog_block(log_bytes, log_len, rows, sizeof rows, HPLOG_BLOCKS - 1).number == 0; }
 static int run_stored(void) { return hplog_stored(log_bytes, log_len, rows, sizeof rows, 0).number == 0; }
 static int run_dictionary(void) { return hplog_dictionary(log_bytes, log_len, frame, sizeof frame).number == 0; }
@@ -136,11 +137,11 @@ static void make_names(void) {
 }
 
 /* An entry with as many fields as there may be: a long text first, then numbers and short texts in turn. The text
- * begins with a label's bytes and no character is cut at its end, nor at a hundred bytes. */
+ * begins with a name that a label shortens, and no character is cut at its end, nor at a hundred bytes. */
 static void make_entry(void) {
-    memset(text, 'x', HPLOG_PANEL);
-    for (size_t i = HPLOG_PANEL; i < sizeof text; i++)
-        text[i] = (uint8_t)UNIT[(i - HPLOG_PANEL) % (sizeof UNIT - 1)];
+    memset(text, 'x', SERIAL);
+    for (size_t i = SERIAL; i < sizeof text; i++)
+        text[i] = (uint8_t)UNIT[(i - SERIAL) % (sizeof UNIT - 1)];
     for (unsigned i = 0; i < FIELDS; i++) {
         uint8_t *field = fields + HPLOG_FIELD * i;
         put(field, NAMES - 1 - i, 2);

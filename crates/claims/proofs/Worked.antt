@@ -36,7 +36,7 @@ use Rattle.packing.specs.Table.{recordsIn, valueFor, recordAt, recordsFrom, fie
 use Rattle.names.specs.Dictionary.{nameAt, nextAt, held, shapeRules, newRule, namesRules}
 use Rattle.names.specs.Dictionary as dictionary
 use Rattle.lookup.specs.Lookup.{isName, seekFrom}
-use Rattle.label.specs.Label.{printable, printRules, labelRules, shortened, labelOf, padded, labelBytes, labelOut}
+use Rattle.label.specs.Label.{printable, printRules, labelRules, shortened, labelOf, padded, abridged, labelBytes, labelOut}
 use Rattle.query.specs.Query.{listed, chosen, queryRules, queryOf, queryOut}
 use Rattle.query.specs.Query as query
 use Rattle.frame.specs.Frame.{wholeDictionary, frameOf, placeRules, indexSize, lengthRules, indexRules, footerRules, frameRules, indexRows}
@@ -77,7 +77,7 @@ unfolding firstBroken holds numberOf rules.placeOf ruled le fromLe leAt splice s
     asField fieldAt valueAt valIn readFields entries.orderRules readEntry entriesFrom entriesOf lastTime packField packFields fieldIn fieldsIn fieldSize
     fieldsSize entrySize entryBytes partRight textRules packing.fieldRules packing.roomRules sizedRules packRules recordsIn valueFor recordAt recordsFrom
     fieldsOf nameAt nextAt dictionary.placeOf dictionary.nameOf held shapeRules newRule namesRules dictionary.dictionaryRules isName seekFrom printable
-    printRules labelRules shortened labelOf padded labelBytes labelOut listed chosen query.orderRules query.countRules queryRules queryOf queryOut
+    printRules labelRules shortened labelOf padded abridged labelBytes labelOut listed chosen query.orderRules query.countRules queryRules queryOf queryOut
     frame.dictionaryRules wholeDictionary frameOf placeRules indexSize lengthRules indexRules footerRules frameRules indexRows rowRules blocksRules
     afterRules rowsIn openRules reader.roomRules reader.callRules openOf limitOf offsetRules recoverRules reportOf recovery.roomRules recovery.callRules
     recoverOf isNew isBegun isOpen boundRules begunRules firstBytes beginRules beginOf beginOut heldAs newRules nameRules withName name.nameOf nameBytes

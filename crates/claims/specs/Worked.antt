@@ -3,10 +3,10 @@
 use mathlib.Core.Path.{_≡_}
 use mathlib.Core.Bool.{Bool, true, false}
 use mathlib.Core.List.{List, [], _∷_, _++_}
-use Prim.Native.Nat.{ℕ}
+use Prim.Native.Nat.{ℕ, zero, suc, _+_}
 use lib.IntN.{negsuc}
 use lib.ListN.{length, take, replicate}
-use Rattle.verdict.specs.Rules.{Verdict, sound, broken, Outcome, given, refused}
+use Rattle.verdict.specs.Rules.{Verdict, sound, broken, Outcome, given}
 use Rattle.wire.specs.Wire.{le}
 use Rattle.parts.specs.declared.IndexRow.{IndexRow}
 use Rattle.parts.specs.declared.time.Epoch.{Epoch}
@@ -127,8 +127,10 @@ Chooses from to n after =
     (queryOf (smallRow ∷ []) (time from) (time to) 2 ≡ given n)
     × (queryOut (smallRow ∷ []) (time from) (time to) (7 ∷ 8 ∷ []) ≡ after)
 
-abbrev letters : ℕ → List ℕ
-letters n = replicate n 0x41
+-- n letters of the alphabet, from one on
+abbrev letters : (first n : ℕ) → List ℕ
+letters first zero = []
+letters first (suc n) = first ∷ letters (first + 1) n
 
 -- a label in a panel of zeros: what it answers, and what the panel is then
 abbrev Labels : (s : List ℕ) → Outcome Bool → List ℕ → Type 0
@@ -160,8 +162,9 @@ pub record Worked : Type 0 where
   -- "time 30,000,000,999 / 30,000,001,000 after start 1000: same block / next"
   pub k7 : (belongsTo (time 30_000_000_999) (time 1000) ≡ true)
       × (belongsTo (time 30_000_001_000) (time 1000) ≡ false)
-  -- "label of 16 letters / of 17: the 16 / 15, place 16", which leaves the panel as it was
-  pub k8 : Labels (letters 16) (given false) (letters 16) × Labels (letters 17) (refused 15 16) (zeros 16)
+  -- "label of 16 letters / of 17", from a on: the 16 / "its first eight bytes, `~`, and its last seven", from k on
+  pub k8 : Labels (letters 0x61 16) (given false) (letters 0x61 16)
+      × Labels (letters 0x61 17) (given true) (letters 0x61 8 ++ (0x7E ∷ letters 0x6B 7))
   -- "small file cut at 102 / at 103, header not yet closed: no block / one block"
   pub k9 : (recoverOf (diskOf 102 smallAdded) 28 ≡ given noBlock)
       × (recoverOf (diskOf 103 smallAdded) 28 ≡ given (oneBlock false))

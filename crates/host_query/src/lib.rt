@@ -71,7 +71,8 @@ pub extern "C" fn hplog_query(rows: &[u8], t1: u64, t2: u64, numbers: &mut [u8])
 
 #[no_mangle]
 pub extern "C" fn hplog_label(name: &[u8], panel: &mut [u8]) -> Answer
-    ensures { λ r. ⌜ (r ≡ hostLabelOf (now (name .entry)) (length (now (panel .entry)))) × (now (panel .exit) ≡ labelOut (now (name .entry)) (now (panel .entry))) ⌝ }
+    ensures { λ r. ⌜ (r ≡ hostLabelOf (now (name .entry)) (length (now (panel .entry))))
+        × (now (panel .exit) ≡ labelOut (now (name .entry)) (now (panel .entry))) ⌝ }
 {
     let r = label::label(name, panel);
     match r {

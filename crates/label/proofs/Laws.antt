@@ -1,19 +1,19 @@
 -- Laws of the label's rules and bytes. Assumes nothing.
 use mathlib.Core.Path.{_≡_, refl, sym, ap, _∙_}
-use mathlib.Core.Bool.{true, false}
-use mathlib.Core.List.{List, [], _∷_, _++_}
+use mathlib.Core.Bool.{Bool, true, false}
+use mathlib.Core.List.{List, [], _∷_, _++_, append-assoc}
 use Prim.Native.Nat.{ℕ, zero, suc, _+_, _-_, _≤_, _<_}
 use native.Mathlib.Nat.{sub-zero, zero-sub, suc-sub-suc}
 use native.Mathlib.Omega.{arith}
 use native.Mathlib.Numerals.{add-one}
-use lib.ListN.{length, getD, take, drop, replicate, drop-of-length-le, length-replicate}
+use lib.ListN.{length, getD, take, drop, replicate, drop-of-length-le, length-take, length-drop, length-append, length-replicate}
 use lib.Seq.{drop-cons, take-all}
-use borrow.Author.Tests.{le-leb, lt-leb}
-use Rattle.wire.specs.Wire.{splice}
+use borrow.Author.Tests.{le-leb, lt-leb, lt-ltb, le-ltb}
+use Rattle.wire.specs.Wire.{le, splice}
 use Rattle.wire.proofs.Splices.{splice-join}
 use Rattle.verdict.specs.Rules.{atLeast, sound, broken, firstBroken, given, refused}
-use Rattle.verdict.proofs.Laws.{flag-holds, flag-breaks, most-holds, most-breaks, least-holds, least-breaks, then-sound, then-broken}
-use Rattle.label.specs.Label.{printable, printRules, labelRules, shortened, labelOf, padded, labelBytes, labelOut}
+use Rattle.verdict.proofs.Laws.{flag-holds, flag-breaks, least-holds, least-breaks, then-sound, then-broken}
+use Rattle.label.specs.Label.{printable, printRules, labelRules, shortened, labelOf, padded, abridged, labelBytes, labelOut}
 use Rattle.label.specs.Inner.{Printable}
 
 -- ---- printable bytes
@@ -48,20 +48,14 @@ module _ (name : List ℕ) (i : ℕ) where
 
 -- ---- the rules, by what was found
 
-pub label-long : (name : List ℕ) (room : ℕ) → 16 < length name → firstBroken (labelRules name room) ≡ broken 15 16
-unfolding labelRules
-label-long name room h = most-breaks 15 16 _ (length name) 16 h
-
-module _ (name : List ℕ) (p room : ℕ) (short : length name ≤ 16) (found : Printable name p) where
-  label-rest : firstBroken (labelRules name room) ≡ firstBroken (printRules 0 name ++ (atLeast 12 16 room 16 ∷ []))
-  unfolding labelRules
-  label-rest = most-holds 15 16 _ (length name) 16 short
-
+module _ (name : List ℕ) (p room : ℕ) (found : Printable name p) where
   pub label-unprintable : p < length name → firstBroken (labelRules name room) ≡ broken 15 p
-  label-unprintable h = label-rest ∙ then-broken _ _ 15 p (sym (found .before) ∙ print-stop name p h (found .stops h))
+  unfolding labelRules
+  label-unprintable h = then-broken _ _ 15 p (sym (found .before) ∙ print-stop name p h (found .stops h))
 
   all-print : length name ≤ p → firstBroken (labelRules name room) ≡ firstBroken (atLeast 12 16 room 16 ∷ [])
-  all-print h = label-rest ∙ then-sound _ _ (sym (found .before) ∙ print-end name p h)
+  unfolding labelRules
+  all-print h = then-sound _ _ (sym (found .before) ∙ print-end name p h)
 
   pub label-no-room : length name ≤ p → room < 16 → firstBroken (labelRules name room) ≡ broken 12 16
   label-no-room h r = all-print h ∙ least-breaks 12 16 [] room 16 r
@@ -78,10 +72,16 @@ module _ (name panel : List ℕ) where
   unfolding labelOf labelOut
   label-refused n p e = (rw e, rw e)
 
-  pub label-whole : firstBroken (labelRules name (length panel)) ≡ sound
-      → (given false ≡ labelOf name (length panel)) × (splice panel 0 (padded name) ≡ labelOut name panel)
-  unfolding labelOf labelOut labelBytes shortened
-  label-whole e = (rw e, rw e)
+  module _ (e : firstBroken (labelRules name (length panel)) ≡ sound) where
+    pub label-whole : length name ≤ 16
+        → (given false ≡ labelOf name (length panel)) × (splice panel 0 (padded name) ≡ labelOut name panel)
+    unfolding labelOf labelOut labelBytes shortened
+    label-whole h = (rw (e, le-ltb 16 (length name) h), rw (e, le-ltb 16 (length name) h))
+
+    pub label-shortened : 16 < length name
+        → (given true ≡ labelOf name (length panel)) × (splice panel 0 (abridged name) ≡ labelOut name panel)
+    unfolding labelOf labelOut labelBytes shortened
+    label-shortened h = (rw (e, lt-ltb 16 (length name) h), rw (e, lt-ltb 16 (length name) h))
 
 -- ---- what is put, one part after the other
 
@@ -103,8 +103,21 @@ after-front panel xs ys n e =
     let z : n ≡ 0 + length xs = omega arith in
     rw z (splice-join panel xs ys 0)
 
-pub panel-padded : (name panel one two : List ℕ) → one ≡ splice panel 0 name
-    → two ≡ splice one (length name) (take (16 - length name) (drop (length name) (replicate 16 0x20)))
-    → two ≡ splice panel 0 (padded name)
-unfolding padded
-panel-padded name panel one two e f = rw (f, e, spaces-from (length name)) (after-front panel name _ (length name) refl)
+module _ (name panel : List ℕ) where
+  pub panel-padded : (one two : List ℕ) → one ≡ splice panel 0 name
+      → two ≡ splice one (length name) (take (16 - length name) (drop (length name) (replicate 16 0x20)))
+      → two ≡ splice panel 0 (padded name)
+  unfolding padded
+  panel-padded one two e f = rw (f, e, spaces-from (length name)) (after-front panel name _ (length name) refl)
+
+  pub panel-abridged : 16 < length name → (one two three : List ℕ) → one ≡ splice panel 0 (take 8 name)
+      → two ≡ splice one 8 (le 1 0x7E) → three ≡ splice two 9 (take (length name - (length name - 7)) (drop (length name - 7) name))
+      → three ≡ splice panel 0 (abridged name)
+  unfolding abridged le
+  panel-abridged h one two three e f g =
+      let rest = drop (length name - 7) name in
+      let eight : length (take 8 name) ≡ 8 = rw length-take (omega arith) in
+      let nine : length (take 8 name ++ (0x7E ∷ [])) ≡ 9 = rw (length-append, eight) in
+      let whole = take-all (length name - (length name - 7)) rest (rw length-drop (omega arith)) in
+      rw (g, f, e, whole, after-front panel (take 8 name) (0x7E ∷ []) 8 eight)
+      (after-front panel (take 8 name ++ (0x7E ∷ [])) rest 9 nine ∙ ap (splice panel 0) (append-assoc (take 8 name) (0x7E ∷ []) rest))

@@ -1,28 +1,29 @@
 -- The panel label. Assumes nothing.
 -- Document 01: "The panel label is sixteen bytes: a name of at most sixteen bytes, all from 20 to 7E hex, then spaces."
+-- Document 02, a: "A printable name above sixteen bytes now shows as its first eight bytes, `~`, and its last seven".
 use Prim.Native.Nat.{ℕ, suc, _-_}
-use mathlib.Core.Bool.{Bool, false, _&&_}
+use mathlib.Core.Bool.{Bool, _&&_, cond}
 use mathlib.Core.List.{List, [], _∷_, _++_}
-use lib.Dec.{leb}
-use lib.ListN.{length, replicate}
+use lib.Dec.{leb, ltb}
+use lib.ListN.{length, take, drop, replicate}
 use Rattle.wire.specs.Wire.{splice}
-use Rattle.verdict.specs.Rules.{Rule, flag, atLeast, atMost, ifSound, firstBroken, Outcome, settle}
+use Rattle.verdict.specs.Rules.{Rule, flag, atLeast, ifSound, firstBroken, Outcome, settle}
 
 unfoldable pub printable : ℕ → Bool
 printable b = leb 0x20 b && leb b 0x7E
 
--- each byte, the first of them at place i: "else first byte not printable"
+-- 15: "an unprintable byte, anywhere in the name"; each byte, the first of them at place i
 unfoldable pub printRules : ℕ → List ℕ → List Rule
 printRules i [] = []
 printRules i (b ∷ s) = flag 15 i (printable b) ∷ printRules (suc i) s
 
--- "name above 16 bytes (place 16), else first byte not printable", then "lent output too small; place = length needed"
+-- and last 12: "lent output too small; place = length needed"
 unfoldable pub labelRules : List ℕ → ℕ → List Rule
-labelRules name room = atMost 15 16 (length name) 16 ∷ (printRules 0 name ++ (atLeast 12 16 room 16 ∷ []))
+labelRules name room = printRules 0 name ++ (atLeast 12 16 room 16 ∷ [])
 
--- whether the label has less than the name
+-- "whether it was shortened"
 unfoldable pub shortened : List ℕ → Bool
-shortened name = false
+shortened name = ltb 16 (length name)
 
 -- what is handed back
 unfoldable pub labelOf : List ℕ → ℕ → Outcome Bool
@@ -32,8 +33,12 @@ labelOf name room = settle (firstBroken (labelRules name room)) (shortened name)
 unfoldable pub padded : List ℕ → List ℕ
 padded name = name ++ replicate (16 - length name) 0x20
 
+-- "its first eight bytes, `~`, and its last seven"
+unfoldable pub abridged : List ℕ → List ℕ
+abridged name = take 8 name ++ (0x7E ∷ drop (length name - 7) name)
+
 unfoldable pub labelBytes : List ℕ → List ℕ
-labelBytes name = padded name
+labelBytes name = cond (shortened name) (abridged name) (padded name)
 
 -- the panel afterwards: the label at its front, or what it was
 unfoldable pub labelOut : List ℕ → List ℕ → List ℕ

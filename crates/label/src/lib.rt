@@ -1,9 +1,9 @@
 // The panel label of a name. A refusal leaves the panel as it was.
 ghost use mathlib.Core.Path.{_≡_};
-ghost use Prim.Native.Nat.{_≤_};
+ghost use Prim.Native.Nat.{_≤_, _<_};
 ghost use lib.ListN.{length};
 ghost use Rattle.wire.specs.Wire.{splice};
-ghost use Rattle.label.specs.Label.{padded, labelOf, labelOut};
+ghost use Rattle.label.specs.Label.{padded, abridged, labelOf, labelOut};
 ghost use Rattle.label.specs.Answer.{labelledOf};
 ghost use Rattle.label.specs.Inner.{Printable};
 use verdict::Refusal;
@@ -49,20 +49,34 @@ fn pad(panel: &mut [u8], name: &[u8])
     wire::copy_at(panel, n, &spaces[n..]);
 }
 
+// Puts the first eight bytes of a longer name, a tilde and the last seven.
+fn abridge(panel: &mut [u8], name: &[u8])
+    requires { ⌜ 16 < length (now name) ⌝ }
+    ensures { λ _. ⌜ now (panel .exit) ≡ splice (now (panel .entry)) 0 (abridged (now (name .entry))) ⌝ }
+{
+    let last = name.len() - 7;
+    wire::copy_at(panel, 0, &name[..8]);
+    wire::put_u8(panel, 8, b'~');
+    wire::copy_at(panel, 9, &name[last..]);
+}
+
 // Puts the label of a name into the first sixteen bytes of a panel; a longer panel keeps the rest.
 pub fn label(name: &[u8], panel: &mut [u8]) -> Labelled
-    ensures { λ r. ⌜ (labelledOf r ≡ labelOf (now (name .entry)) (length (now (panel .entry)))) × (now (panel .exit) ≡ labelOut (now (name .entry)) (now (panel .entry))) ⌝ }
+    ensures { λ r. ⌜ (labelledOf r ≡ labelOf (now (name .entry)) (length (now (panel .entry))))
+        × (now (panel .exit) ≡ labelOut (now (name .entry)) (now (panel .entry))) ⌝ }
 {
     let n = name.len();
-    if 16 < n {
-        return refuse(15, 16);
-    }
+    // the whole name, since a byte that isn't printable is refused where it would not show, too
     let p = first_unprintable(name);
     if p < n {
         return refuse(15, p as u64);
     }
     if panel.len() < 16 {
         return refuse(12, 16);
+    }
+    if 16 < n {
+        abridge(panel, name);
+        return Labelled::Written(true);
     }
     pad(panel, name);
     Labelled::Written(false)

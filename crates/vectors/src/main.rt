@@ -5,7 +5,7 @@
 //   crc32   the checksum, eight hexadecimal digits
 //   utf8    valid or invalid
 //   varint  cut, malformed, or the value, the position behind it and the value's shortest form in hexadecimal
-//   label   of a name: written or the refusal, and then a panel of twenty bytes AA afterwards
+//   label   of a name: written, shortened or the refusal, and then a panel of twenty bytes AA afterwards
 //   panel   the same, with a panel of fifteen bytes
 //   names   of a plain dictionary: how many names it has, or the refusal
 //   many    of a number of names (u32) and a kind (u8), from which a dictionary is made: the same; kind 1 makes the last name equal to the first

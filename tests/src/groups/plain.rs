@@ -8,7 +8,12 @@ use hplog_tests::records::{Answer, Cursor};
 use hplog_tests::reference;
 
 pub fn label(check: &mut Check, random: &mut Random) {
-    let length = if random.once_in(10) { random.below(200) } else { random.below(19) };
+    let length = match random.below(100) {
+        0 => random.below(70_000),
+        1..=10 => random.below(200),
+        11..=50 => random.below(40),
+        _ => random.below(19),
+    };
     let mut name: Vec<u8> = (0..length).map(|_| 0x20 + random.below(0x5F) as u8).collect();
     for _ in 0..random.below(3) {
         if !name.is_empty() {

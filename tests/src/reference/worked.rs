@@ -121,13 +121,32 @@ fn k7_thirty_seconds() {
 
 #[test]
 fn k8_labels() {
-    let mut panel = [0; 16];
-    assert_eq!(label(b"abcdefghijklmnop", &mut panel).number, 0);
-    assert_eq!(&panel, b"abcdefghijklmnop");
-    let refused = label(b"abcdefghijklmnopq", &mut panel);
-    assert_eq!((refused.number, refused.place), (15, 16));
-    assert_eq!(label(b"wet", &mut panel).number, 0);
-    assert_eq!(&panel, b"wet             ");
+    let shown = |name: &[u8]| {
+        let mut panel = [0; 16];
+        let answer = label(name, &mut panel);
+        assert_eq!(answer.number, 0);
+        (panel, answer.count)
+    };
+    assert_eq!(shown(b"abcdefghijklmnop"), (*b"abcdefghijklmnop", 0));
+    assert_eq!(shown(b"abcdefghijklmnopq"), (*b"abcdefgh~klmnopq", 1));
+    assert_eq!(shown(b"wet"), (*b"wet             ", 0));
+}
+
+#[test]
+fn labels_of_long_names() {
+    let mut panel = [0xAA; 20];
+    assert_eq!(label(b"SN-2026-0007-ABCDEFGHIJKLMNOPQ", &mut panel).count, 1);
+    assert_eq!(&panel[..16], b"SN-2026-~KLMNOPQ");
+    assert_eq!(&panel[16..], [0xAA; 4]);
+    assert_eq!(label(b"xxxxxxxxxxxxxxx~", &mut panel).count, 0);
+    let refused = |name: &[u8], room: usize| {
+        let answer = label(name, &mut [0; 16][..room]);
+        (answer.number, answer.place)
+    };
+    assert_eq!(refused(b"abcdefghi\xC3\xA9lmnopqrstuv", 16), (15, 9));
+    assert_eq!(refused(b"abcdefghijklmno\x7F", 16), (15, 15));
+    assert_eq!(refused(&[0x1F; 40], 15), (15, 0));
+    assert_eq!(refused(&[b'x'; 40], 15), (12, 16));
 }
 
 #[test]
