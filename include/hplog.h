@@ -83,7 +83,7 @@ hplog_answer hplog_recover(const uint8_t *log, size_t log_len, uint8_t *rows, si
 hplog_answer hplog_repair(const uint8_t *log, size_t log_len, const uint8_t *dictionary, size_t dictionary_len, uint8_t *out, size_t out_len);
 
 /* Writes a name as a panel's sixteen bytes: one of at most sixteen, filled up with spaces (count = 0); of a longer
- * one the first eight bytes, '~' and the last seven (count = 1, shortened). A name may have any length, and also a '~'.
+ * one the first eight bytes, '~' and the last seven (count = 1, shortened). A name may have any length and a '~' in it.
  * Bytes of panel past the sixteenth stay as they are.
  * Refusals in order: 15, also for a byte that would not show; 12. */
 hplog_answer hplog_label(const uint8_t *name, size_t name_len, uint8_t *panel, size_t panel_len);

@@ -14,7 +14,7 @@
 #define UNIT "xxx\xC3\xA9\xE2\x82\xAC\xF0\x9F\x98\x80"
 
 enum { NAMES = 65535, NAME = 84, STORED = 1 << 20, FIELDS = 255, TEXT = 1 << 16, PAINT = 0xA5, PAGE = 4096 };
-enum { SERIAL = 28 }; /* bytes of a name that a label shortens */
+enum { SHORT = 1, SERIAL = 28 }; /* bytes of a name that a label fills up, and of one that it shortens */
 
 /* What the calls are lent. */
 static uint8_t *dictionary, *log_bytes, *cut, *out, *plain, *book, *stored;
@@ -48,7 +48,8 @@ static int run_recover(void) {
     return hplog_recover(cut, cut_len, rows, sizeof rows, report, sizeof report).number == 0;
 }
 static int run_repair(void) { return hplog_repair(cut, cut_len, stored, 1, out, out_len).number == 0; }
-static int run_label(void) { return hplog_label(text, SERIAL, panel, sizeof panel).number == 0; }
+static int run_label(void) { return hplog_label(text, SHORT, panel, sizeof panel).number == 0; }
+static int run_shortened(void) { return hplog_label(text, SERIAL, panel, sizeof panel).number == 0; }
 static int run_block(void) { return hplog_block(log_bytes, log_len, rows, sizeof rows, HPLOG_BLOCKS - 1).number == 0; }
 static int run_stored(void) { return hplog_stored(log_bytes, log_len, rows, sizeof rows, 0).number == 0; }
 static int run_dictionary(void) { return hplog_dictionary(log_bytes, log_len, frame, sizeof frame).number == 0; }
@@ -112,7 +113,7 @@ static const struct {
     CALL(dictionary), CALL(names), CALL(name), CALL(name_at), CALL(number), CALL(delta), CALL(count),
     CALL(field), CALL(check_block), CALL(book), CALL(book_parts), CALL(book_part), CALL(list),
     CALL(list_range), CALL(list_next), CALL(writer_new), CALL(begin), CALL(add_name), CALL(add_entry),
-    CALL(add_block), CALL(close),
+    CALL(add_block), CALL(close), {"hplog_label, shortened", run_shortened},
 };
 
 /* ---- what they are lent ---- */
