@@ -12,10 +12,10 @@ CC ?= cc
 CFLAGS ?= -O2 -g
 INSTALL ?= install
 
-HOST_CFLAGS = -std=c11 -D_GNU_SOURCE -Wall -Wextra -Wpedantic -Werror -Iinclude
-OBJECTS = $(patsubst host/%.c,target/host/%.o,$(wildcard host/*.c))
+COMMAND_CFLAGS = -std=c11 -D_GNU_SOURCE -Wall -Wextra -Wpedantic -Werror -Iinclude
+OBJECTS = $(patsubst command/%.c,target/command/%.o,$(wildcard command/*.c))
 COMMAND = target/bin/hplog
-VERSION = $(shell sed -n 's/^.define HOST_VERSION "\(.*\)"/\1/p' host/version.h)
+VERSION = $(shell sed -n 's/^.define COMMAND_VERSION "\(.*\)"/\1/p' command/version.h)
 
 ifdef HPLOG_LIB
 LIBRARY = $(HPLOG_LIB)/libhplog.a
@@ -32,9 +32,9 @@ $(COMMAND): $(OBJECTS) $(LIBRARY)
 	@mkdir -p $(@D)
 	$(CC) $(CFLAGS) $(LDFLAGS) $(OBJECTS) $(LIBRARY) -o $@
 
-target/host/%.o: host/%.c include/hplog.h $(wildcard host/*.h)
+target/command/%.o: command/%.c include/hplog.h $(wildcard command/*.h)
 	@mkdir -p $(@D)
-	$(CC) $(HOST_CFLAGS) $(CPPFLAGS) $(CFLAGS) -c $< -o $@
+	$(CC) $(COMMAND_CFLAGS) $(CPPFLAGS) $(CFLAGS) -c $< -o $@
 
 run: all
 	samples/run $(COMMAND)
@@ -47,7 +47,7 @@ bench: $(LIBRARY)
 
 install: all
 	@mkdir -p target
-	sed -e 's|@PREFIX@|$(PREFIX)|' -e 's|@VERSION@|$(VERSION)|' host/hplog.pc.in > target/hplog.pc
+	sed -e 's|@PREFIX@|$(PREFIX)|' -e 's|@VERSION@|$(VERSION)|' command/hplog.pc.in > target/hplog.pc
 	$(INSTALL) -D -m 755 $(COMMAND) $(DESTDIR)$(PREFIX)/bin/hplog
 	$(INSTALL) -D -m 644 include/hplog.h $(DESTDIR)$(PREFIX)/include/hplog.h
 	$(INSTALL) -D -m 644 $(LIBRARY) $(DESTDIR)$(PREFIX)/lib/libhplog.a

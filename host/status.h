@@ -1,7 +1,0 @@
-/* Exit statuses. */
-#ifndef HOST_STATUS_H
-#define HOST_STATUS_H
-
-enum { STATUS_ACCEPTED = 0, STATUS_REFUSED = 1, STATUS_ERROR = 2 };
-
-#endif
