@@ -7,12 +7,12 @@ use Rattle.verdict.specs.Rules.{Verdict, sound, broken, firstBroken, given, ref
 use Rattle.verdict.proofs.Laws.{then-sound, then-broken, settle-given, settle-refused}
 use Rattle.wire.specs.Wire.{splice}
 use Rattle.crc32.specs.Crc.{crc32}
-use Rattle.rows.specs.Rows.{stride, tableBytes}
+use Rattle.rows.specs.Rows.{stride, tableBytes, roomRules}
 use Rattle.frame.specs.declared.Frame.{Frame}
 use Rattle.frame.specs.Frame.{frameOf}
-use Rattle.frame.proofs.Index.{length-index}
-use Rattle.reader.specs.Open.{rowsIn, openRules, roomRules, callRules, openOf, openOut}
-use Rattle.reader.proofs.Rules.{room-short, room-there}
+use Rattle.reader.specs.Open.{rowsIn, openRules, callRules, openOf, openOut}
+use Rattle.rows.proofs.Fits.{room-short, room-there}
+use Rattle.reader.proofs.Opens.{rows-count}
 use Rattle.reader.proofs.Sound.{laid}
 use Rattle.c_answer.specs.declared.Answer.{Answer}
 use Rattle.c_answer.specs.Answer.{answered}
@@ -37,8 +37,7 @@ module _ (log : List ℕ) (rows : ℕ) where
     short-few = rw (passes .1) (laid log (passes .0) .few)
 
     count : length (rowsIn log) ≡ f .blocks
-    unfolding rowsIn
-    count = rw (passes .1) (length-index (frameOf log .blocks) log _)
+    count = rows-count log f (passes .1)
 
     pub short-rows : rows < f .blocks * stride
         → answered (refused 12 (f .blocks * stride)) ≡ answered (settle (lacking (callRules log rows) 40) (frameOf log .blocks))

@@ -9,7 +9,7 @@ use lib.Seq.{drop-drop}
 use Rattle.wire.specs.Wire.{le, splice}
 use Rattle.wire.proofs.Numbers.{length-le}
 use Rattle.wire.proofs.Splices.{splice-nil, splice-join, splice-parts}
-use Rattle.parts.specs.declared.IndexRow.{IndexRow}
+use Rattle.rows.specs.declared.Row.{Row}
 use Rattle.parts.specs.declared.time.Epoch.{Epoch}
 use Rattle.query.specs.Query.{chosen}
 use Rattle.query.proofs.Chosen.{chosen-cons, chosen-nil}
@@ -56,7 +56,7 @@ part-back l at n xs r e h w =
 -- ---- the numbers of the listed rows, row by row: what is left to be laid over the output, before and after a turn, and where none is left
 
 module _ (t1 t2 : Epoch) (out : List ℕ) (at i : ℕ) where
-  pub put-turn : (r : IndexRow) (rs : List IndexRow)
+  pub put-turn : (r : Row) (rs : List Row)
       → splice (splice out at (numbersBytes (chosen t1 t2 i (r ∷ [])))) (at + 4 * length (chosen t1 t2 i (r ∷ []))) (numbersBytes (chosen t1 t2 (i + 1) rs))
       ≡ splice out at (numbersBytes (chosen t1 t2 i (r ∷ rs)))
   put-turn r rs =

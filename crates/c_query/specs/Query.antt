@@ -4,7 +4,7 @@ use Prim.Native.Nat.{ℕ, _*_, _%_}
 use lib.ListN.{length}
 use Rattle.verdict.specs.Rules.{Rule, equal, atLeast, atMost, ifSound, firstBroken, settle}
 use Rattle.wire.specs.Wire.{le, splice}
-use Rattle.parts.specs.declared.IndexRow.{IndexRow}
+use Rattle.rows.specs.declared.Row.{Row}
 use Rattle.parts.specs.declared.time.Epoch.{Epoch}
 use Rattle.rows.specs.Rows.{stride}
 use Rattle.query.specs.Query.{chosen, tableRows, rowRules}
@@ -15,7 +15,7 @@ abbrev pub epoch : ℕ → Epoch
 epoch t = record { 0 = t }
 
 -- all of the lent rows
-abbrev pub cRows : List ℕ → List IndexRow
+abbrev pub cRows : List ℕ → List Row
 cRows rows = tableRows rows
 
 abbrev pub cChosen : (rows : List ℕ) (t1 t2 : ℕ) → List ℕ

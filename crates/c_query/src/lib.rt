@@ -1,4 +1,4 @@
-// The choice of blocks and the label for programs in C, on numbers and lent bytes. A length comes behind each pointer (include/hplog.h).
+// The choice of blocks and the label for programs in C, on numbers and lent bytes. A length comes after each pointer (include/hplog.h).
 ghost use mathlib.Core.Path.{_≡_};
 ghost use mathlib.Core.List.{[], _∷_};
 ghost use Prim.Native.Nat.{_+_, _*_, _≤_};
@@ -11,11 +11,11 @@ ghost use Rattle.c_query.specs.Label.{cLabelOf};
 use c_answer::Answer;
 use label::Labelled;
 use parts::Epoch;
-use parts::IndexRow;
 use query::Queried;
+use rows::Row;
 
 // The number i where its row is listed, as four bytes at an offset; the offset behind it.
-fn put_number(out: &mut [u8], at: usize, i: u32, row: IndexRow, from: Epoch, to: Epoch) -> usize
+fn put_number(out: &mut [u8], at: usize, i: u32, row: Row, from: Epoch, to: Epoch) -> usize
     requires { ⌜ at + 4 * length (chosen from to i (row ∷ [])) ≤ length (now out) ⌝ }
     ensures { λ r. ⌜ (r ≡ at + 4 * length (chosen from to i (row ∷ []))) × (now (out .exit) ≡ splice (now (out .entry)) at (numbersBytes (chosen from to i (row ∷ [])))) ⌝ }
 {

@@ -7,9 +7,9 @@ use lib.ListN.{length}
 use Rattle.verdict.specs.Rules.{Verdict, sound, broken, firstBroken, given, refused, settle, ifSound}
 use Rattle.verdict.proofs.Laws.{least-holds, least-breaks, first-none, then-sound, then-broken}
 use Rattle.wire.specs.Wire.{splice}
-use Rattle.rows.specs.Rows.{stride, tableBytes}
+use Rattle.rows.specs.Rows.{stride, tableBytes, roomRules}
 use Rattle.rows.proofs.Rows.{length-table}
-use Rattle.recovery.specs.Recovery.{recoverRules, reportOf, roomRules, callRules, recoverOf, Counts, counted, recoverOut}
+use Rattle.recovery.specs.Recovery.{recoverRules, reportOf, callRules, recoverOf, Counts, counted, recoverOut}
 use Rattle.recovery.proofs.Reports.{counted-refused, counted-given}
 use Rattle.c_answer.specs.declared.Answer.{Answer}
 use Rattle.c_answer.specs.Answer.{answered}
@@ -23,7 +23,7 @@ module _ (log : List ℕ) (rows : ℕ) where
       → answered (refused n p) ≡ answered (settle (lacking (callRules log rows) 32) (length (reportOf log .rows)))
   unfolding callRules
   short-unread n p e =
-      rw (lacking-broken (recoverRules log ++ roomRules (reportOf log) rows) 32 n p (then-broken (recoverRules log) _ n p (counted-refused _ _ n p e)))
+      rw (lacking-broken (recoverRules log ++ roomRules (reportOf log .rows) rows) 32 n p (then-broken (recoverRules log) _ n p (counted-refused _ _ n p e)))
 
   module _ (c : Counts) (e : given c ≡ counted (settle (firstBroken (recoverRules log)) (reportOf log))) where
     passes : (firstBroken (recoverRules log) ≡ sound) × (c .blocks ≡ length (reportOf log .rows))
@@ -37,16 +37,16 @@ module _ (log : List ℕ) (rows : ℕ) where
     short-rows h =
         let l = length-table (reportOf log .rows) in
         let m : length (tableBytes (reportOf log .rows)) ≡ c .blocks * stride = omega (arith, l, passes .1) in
-        let b = then-sound (recoverRules log) (roomRules (reportOf log) rows) (passes .0) ∙ least-breaks _ _ _ _ _ (omega (arith, m, h)) ∙ ap (broken 12) m in
-        rw (lacking-broken (recoverRules log ++ roomRules (reportOf log) rows) 32 12 (c .blocks * stride) b)
+        let b = then-sound (recoverRules log) (roomRules (reportOf log .rows) rows) (passes .0) ∙ least-breaks _ _ _ _ _ (omega (arith, m, h)) ∙ ap (broken 12) m in
+        rw (lacking-broken (recoverRules log ++ roomRules (reportOf log .rows) rows) 32 12 (c .blocks * stride) b)
 
     pub short-report : c .blocks * stride ≤ rows
         → answered (refused 12 32) ≡ answered (settle (lacking (callRules log rows) 32) (length (reportOf log .rows)))
     unfolding callRules roomRules
     short-report h =
         let l = length-table (reportOf log .rows) in
-        let b = then-sound (recoverRules log) (roomRules (reportOf log) rows) (passes .0) ∙ least-holds _ _ _ _ _ (omega (arith, l, passes .1, h)) ∙ first-none in
-        rw (lacking-sound (recoverRules log ++ roomRules (reportOf log) rows) 32 b)
+        let b = then-sound (recoverRules log) (roomRules (reportOf log .rows) rows) (passes .0) ∙ least-holds _ _ _ _ _ (omega (arith, l, passes .1, h)) ∙ first-none in
+        rw (lacking-sound (recoverRules log ++ roomRules (reportOf log .rows) rows) 32 b)
 
 -- ---- the whole call
 

@@ -185,7 +185,14 @@ pub extern "C" fn hplog_add_block(
     stored: &[u8],
     names: u32,
 ) -> Written
-    ensures { λ r. ⌜ (r ≡ storing state (blockOf (writerIn state) (adding (record { 0 = start }) (now (plain .entry)) (now (stored .entry)) names) (length (now (rows .entry))) (length (now (out .entry))))) × ((now (rows .exit) ≡ rowsOut (writerIn state) (adding (record { 0 = start }) (now (plain .entry)) (now (stored .entry)) names) (now (rows .entry)) (length (now (out .entry)))) × (now (out .exit) ≡ blockOut (writerIn state) (adding (record { 0 = start }) (now (plain .entry)) (now (stored .entry)) names) (length (now (rows .entry))) (now (out .entry)))) ⌝ }
+    ensures { λ r. ⌜ (
+        let w = writerIn state in
+        let a = adding (record { 0 = start }) (now (plain .entry)) (now (stored .entry)) names in
+        let table = now (rows .entry) in
+        let before = now (out .entry) in
+        (r ≡ storing state (blockOf w a (length table) (length before)))
+        × (now (rows .exit) ≡ rowsOut w a table (length before))
+        × (now (out .exit) ≡ blockOut w a (length table) before)) ⌝ }
 {
     let w = writer_in(state);
     let r = writer_blocks::add_block(w, rows, out, Epoch(start), plain, stored, names);
@@ -200,7 +207,14 @@ pub extern "C" fn hplog_close(
     plain: &[u8],
     stored: &[u8],
 ) -> Written
-    ensures { λ r. ⌜ (r ≡ storing state (closeOf (writerIn state) (now (rows .entry)) (now (plain .entry)) (now (stored .entry)) (length (now (out .entry))))) × (now (out .exit) ≡ closeOut (writerIn state) (now (rows .entry)) (now (plain .entry)) (now (stored .entry)) (now (out .entry))) ⌝ }
+    ensures { λ r. ⌜ (
+        let w = writerIn state in
+        let table = now (rows .entry) in
+        let names = now (plain .entry) in
+        let dictionary = now (stored .entry) in
+        let before = now (out .entry) in
+        (r ≡ storing state (closeOf w table names dictionary (length before)))
+        × (now (out .exit) ≡ closeOut w table names dictionary before)) ⌝ }
 {
     let w = writer_in(state);
     let r = w.close(rows, out, plain, stored);

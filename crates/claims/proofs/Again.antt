@@ -9,9 +9,9 @@ use lib.ListN.{length, take, replicate, length-append, length-map, length-replic
 use Rattle.verdict.specs.Rules.{sound, firstBroken, verdictIn, ruled}
 use Rattle.verdict.proofs.Laws.{then-sound, first-ruled, settle-verdict, flag-holds, least-holds, most-holds, first-none}
 use Rattle.wire.proofs.Splices.{length-splice}
-use Rattle.rows.specs.Rows.{stride, rowsOf, tableBytes}
+use Rattle.rows.specs.Rows.{stride, rowsOf, tableBytes, rowsWith}
 use Rattle.rows.proofs.Rows.{length-rows}
-use Rattle.layout.specs.Layout.{blocksBytes, rowFor, rowsFrom, finishedBytes}
+use Rattle.layout.specs.Layout.{blocksBytes, rowFor, finishedBytes, tableOf}
 use Rattle.layout.proofs.Parts.{length-closing, length-finished}
 use Rattle.layout.proofs.Along.{length-rows-from}
 use Rattle.names.specs.Dictionary.{dictionaryRules}
@@ -19,7 +19,7 @@ use Rattle.writer.specs.declared.state.Pending.{Pending}
 use Rattle.writer.specs.declared.state.Writer.{Writer}
 use Rattle.writer.specs.State.{isNew, isOpen, begunRules, begunWriter, newWriter}
 use Rattle.writer.specs.Begin.{beginRules}
-use Rattle.writer_blocks.specs.Block.{Adding, readBy, blockFor, takeRules, roomRules, blockRules, blockOf, rowsOut}
+use Rattle.writer_blocks.specs.Block.{Adding, readBy, blockFor, takeRules, storeRules, blockRules, blockOf, rowsOut}
 use Rattle.writer.specs.Close.{endRules, lastRules, lastBytes, closeRules, closeOf}
 use Rattle.writer.proofs.Beginning.{begin-sound}
 use Rattle.disk.proofs.Blocks.{length-blocks}
@@ -61,7 +61,7 @@ fair-append (c ∷ cs) ds h f g = (f .0, fair-append cs ds (after h c) (f .1) g)
 accepts : (xs ys : List Adding) (a : Adding) (table room : ℕ) → Taken begunWriter (xs ++ (a ∷ ys)) → (length xs + 1) * stride ≤ table
     → 36 + length (a .stored) ≤ room
     → firstBroken (blockRules (taken.after begunWriter xs) a table room) ≡ sound
-unfolding blockRules roomRules
+unfolding blockRules storeRules
 accepts xs ys a table room t p q =
     let w = taken.after begunWriter xs in
     let n = taken-next a begunWriter xs ys t .0 in
@@ -77,9 +77,9 @@ module _ (out : List ℕ) where
   replay w t [] = []
   replay w t (a ∷ xs) = block t a out ∷ replay (next w (block t a out)) (rowsOut w a t (length out)) xs
 
-  unfoldable tableOf : Writer → List ℕ → List Adding → List ℕ
-  tableOf w t [] = t
-  tableOf w t (a ∷ xs) = tableOf (next w (block t a out)) (rowsOut w a t (length out)) xs
+  unfoldable tableLeft : Writer → List ℕ → List Adding → List ℕ
+  tableLeft w t [] = t
+  tableLeft w t (a ∷ xs) = tableLeft (next w (block t a out)) (rowsOut w a t (length out)) xs
 
   one-fits : (n : ℕ) (a : Adding) (ys : List Adding) → length (blocksBytes n (map blockFor (a ∷ ys))) ≤ length out
       → (36 + length (a .stored) ≤ length out) × (length (blocksBytes (suc n) (map blockFor ys)) ≤ length out)
@@ -91,15 +91,15 @@ module _ (out : List ℕ) where
     fair : Fair h (replay (h .writer) t ys)
     adds : addings (h .writer) (replay (h .writer) t ys) ≡ ys
     writer : last (h .writer) (replay (h .writer) t ys) ≡ taken.after begunWriter (xs ++ ys)
-    room : length (tableOf (h .writer) t ys) ≡ length t
+    room : length (tableLeft (h .writer) t ys) ≡ length t
     agrees : (
         let k = behind h (replay (h .writer) t ys) in
-        take (k .writer .blocks * stride) (tableOf (h .writer) t ys) ≡ take (k .writer .blocks * stride) (k .table))
+        take (k .writer .blocks * stride) (tableLeft (h .writer) t ys) ≡ take (k .writer .blocks * stride) (k .table))
 
   add-all : (xs ys : List Adding) (h : Writing) (t : List ℕ) → Between xs (h .writer) t → h .writer ≡ taken.after begunWriter xs
       → take (h .writer .blocks * stride) t ≡ take (h .writer .blocks * stride) (h .table) → Taken begunWriter (xs ++ ys)
       → length (xs ++ ys) * stride ≤ length t → (n : ℕ) → length (blocksBytes n (map blockFor ys)) ≤ length out → Added xs ys h t
-  unfolding replay tableOf Fair addings last behind tableAfter blockOf
+  unfolding replay tableLeft Fair addings last behind tableAfter blockOf
   add-all xs [] h t b e m k p n q = record { fair = tt; adds = refl; writer = rw (append-nil xs) e; room = refl; agrees = m }
   add-all xs (a ∷ ys) h t b e m k p n q =
       let w = h .writer in
@@ -109,8 +109,9 @@ module _ (out : List ℕ) where
       let y = taken-next a begunWriter xs ys k .1 in
       let j : (xs ++ (a ∷ [])) ++ ys ≡ xs ++ (a ∷ ys) = append-assoc xs (a ∷ []) ys in
       let u = rowsOut w a t (length out) in
-      let r = rowFor (w .length) (blockFor a) in
-      let z : length u ≡ length t = ap length (block-row w t a out s) ∙ length-splice t (w .blocks * stride) (tableBytes (r ∷ [])) in
+      let r = rowFor (w .blocks) (w .length) (blockFor a) in
+      let z : length u ≡ length t =
+      ap length (block-row w t a out s) ∙ length-splice t 0 (tableBytes (rowsWith r (rowsOf (w .blocks) t))) in
       let g : next w (block t a out) ≡ taken.after begunWriter (xs ++ (a ∷ [])) = block-leaves w t a out s ∙ rw (e, after-more a begunWriter xs) in
       let i = add-all (xs ++ (a ∷ [])) ys (after h (block t a out)) u (block-between xs w t b a out y s) g (rw s refl) (rw j k) (rw j (omega arith)) (suc n) (f .1) in
       record {
@@ -125,7 +126,7 @@ module _ (out : List ℕ) where
 
 module _ (xs : List Adding) (t : Taken begunWriter xs) (stored : List ℕ) where
   abbrev file : List ℕ
-  file = let bs = map blockFor xs in finishedBytes (rowsFrom 64 bs) (blocksBytes 0 bs) stored
+  file = let bs = map blockFor xs in finishedBytes (tableOf bs) (blocksBytes 0 bs) stored
 
   abbrev table : List ℕ
   table = replicate (length xs * stride) 0
@@ -140,16 +141,16 @@ module _ (xs : List Adding) (t : Taken begunWriter xs) (stored : List ℕ) where
   unfolding isNew
   begin-fits =
       let bs = map blockFor xs in
-      begin-sound newWriter (length out) refl (omega (arith, file-length, length-finished (rowsFrom 64 bs) (blocksBytes 0 bs) stored))
+      begin-sound newWriter (length out) refl (omega (arith, file-length, length-finished (tableOf bs) (blocksBytes 0 bs) stored))
 
   blocks-fit : length (blocksBytes 0 (map blockFor xs)) ≤ length out
-  blocks-fit = let bs = map blockFor xs in omega (arith, file-length, length-finished (rowsFrom 64 bs) (blocksBytes 0 bs) stored)
+  blocks-fit = let bs = map blockFor xs in omega (arith, file-length, length-finished (tableOf bs) (blocksBytes 0 bs) stored)
 
   abbrev begun : Writing
   begun = after newWriting (begin out)
 
   abbrev lent : List ℕ
-  lent = tableOf out (begun .writer) table xs
+  lent = tableLeft out (begun .writer) table xs
 
   abbrev calls : List Call
   calls = begin out ∷ replay out (begun .writer) table xs
@@ -183,11 +184,11 @@ module _ (xs : List Adding) (t : Taken begunWriter xs) (stored : List ℕ) where
   unfolding lastBytes
   length-last w u e =
       let bs = map blockFor xs in
-      let n : length (rowsFrom 64 bs) ≡ length xs = length-rows-from 64 bs ∙ length-map xs blockFor in
+      let n : length (tableOf bs) ≡ length xs = length-rows-from 0 64 bs ∙ length-map xs blockFor in
       omega (
         arith,
         file-length,
-        length-finished (rowsFrom 64 bs) (blocksBytes 0 bs) stored,
+        length-finished (tableOf bs) (blocksBytes 0 bs) stored,
         length-closing (w .length) (rowsOf (w .blocks) u) stored,
         length-rows (w .blocks) u,
       )

@@ -11,10 +11,10 @@ use Rattle.verdict.proofs.Laws.{sound-held, parts-sound, first-ruled}
 use Rattle.wire.specs.Wire.{part, splice}
 use Rattle.wire.proofs.Splices.{splice-there}
 use Rattle.parts.specs.declared.time.Epoch.{Epoch}
-use Rattle.parts.specs.declared.IndexRow.{IndexRow}
+use Rattle.rows.specs.declared.Row.{Row}
 use Rattle.parts.specs.Parts.{emptyHeader, headerBytes, footerBytes}
 use Rattle.parts.proofs.Parts.{length-header, length-footer}
-use Rattle.rows.specs.Rows.{stride, rowsOf, tableBytes}
+use Rattle.rows.specs.Rows.{stride, rowsOf, tableBytes, rowsWith}
 use Rattle.layout.specs.Layout.{blockBytes, blockSize, rowFor, dictionaryBytes, indexBytes, tailBytes, closedHeader, closingBytes}
 use Rattle.layout.proofs.Parts.{length-block, length-dictionary}
 use Rattle.packing.specs.Rules.{largest}
@@ -129,7 +129,8 @@ module _ (w : Writer) (t : List ℕ) (a : Adding) (out : List ℕ) (e : firstBro
   unfolding next blockOf
   block-leaves = rw e
 
-  pub block-row : rowsOut w a t (length out) ≡ splice t (w .blocks * stride) (tableBytes (rowFor (w .length) (blockFor a) ∷ []))
+  pub block-row : rowsOut w a t (length out)
+      ≡ splice t 0 (tableBytes (rowsWith (rowFor (w .blocks) (w .length) (blockFor a)) (rowsOf (w .blocks) t)))
   unfolding rowsOut
   block-row = rw e
 
@@ -164,7 +165,7 @@ four h d i f k a b c =
       ap (λ (n : ℕ). drop n x) n ∙ sym (drop-drop (length i) (68 + k) x) ∙ ap (drop (length i)) two ∙ drop-at i f (length i) refl,
     )
 
-last-closing : (at : ℕ) (rows : List IndexRow) (d : List ℕ) → lastStores d (closingBytes at rows d) ≡ closingStores at rows d
+last-closing : (at : ℕ) (rows : List Row) (d : List ℕ) → lastStores d (closingBytes at rows d) ≡ closingStores at rows d
 unfolding lastStores closingBytes tailBytes closingStores
 last-closing at rows d =
     let e = four (headerBytes (closedHeader at rows)) (dictionaryBytes d) (indexBytes rows) (footerBytes (record { index = at + 4 + length d })) (length d)

@@ -5,7 +5,7 @@ use Prim.Native.Nat.{ℕ}
 use lib.ListN.{length}
 use Rattle.verdict.specs.Rules.{sound, broken, firstBroken}
 use Rattle.verdict.proofs.Laws.{never-both, then-broken, settle-verdict}
-use Rattle.layout.specs.Layout.{blocksBytes, rowsFrom, finishedBytes}
+use Rattle.layout.specs.Layout.{blocksBytes, finishedBytes, tableOf}
 use Rattle.packing.specs.Table.{recordsIn, fieldsOf}
 use Rattle.writer.specs.declared.state.Turn.the-variants as turn
 use Rattle.writer.specs.declared.state.Writer.{Writer}
@@ -66,7 +66,7 @@ module _ (cs : List Call) (t plain stored out : List ℕ) (f : Fair newWriting (
       run-append newWriter cs (close t plain stored out ∷ [])
       ∙ rw (i .1, ← behind-writer cs newWriting, closing-is xs (k .writer) t (i .0) plain stored out closing-rules, append-nil)
 
-  pub file-is : (let bs = map blockFor (addings newWriter cs) in fileOf cs t plain stored out [] ≡ finishedBytes (rowsFrom 64 bs) (blocksBytes 0 bs) stored)
+  pub file-is : (let bs = map blockFor (addings newWriter cs) in fileOf cs t plain stored out [] ≡ finishedBytes (tableOf bs) (blocksBytes 0 bs) stored)
   file-is = ap finished closing-stores ∙ finished-closed (addings newWriter cs) stored
 
 -- ---- behind the closing

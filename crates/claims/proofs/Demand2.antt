@@ -10,7 +10,7 @@ use Rattle.parts.specs.declared.BlockHeader.{BlockHeader}
 use Rattle.parts.specs.declared.time.Epoch.{Epoch}
 use Rattle.rows.specs.Rows.{stride, tableBytes}
 use Rattle.rows.proofs.Rows.{length-table}
-use Rattle.layout.specs.Layout.{headOf, rowFor, rowsFrom, endFrom}
+use Rattle.layout.specs.Layout.{headOf, rowFor, endFrom, tableOf}
 use Rattle.layout.proofs.Along.{length-rows-from}
 use Rattle.blocks.specs.Blocks.{headAt}
 use Rattle.entries.specs.Model.{Entry}
@@ -40,8 +40,8 @@ read-some (given es) e = (es, refl)
 read-some (refused n p) e = absurd (let z : _≡_ {A = ℕ} 0 1 = cc in omega arith)
 
 module _ (xs : List Adding) (t : Taken begunWriter xs) (stored : List ℕ) (some : 1 ≤ length stored) (fits : length stored < 256 ^ 4) where
-  rows-room : (table : List ℕ) → length xs * stride ≤ length table → length (tableBytes (rowsFrom 64 (map blockFor xs))) ≤ length table
-  rows-room table h = let bs = map blockFor xs in omega (arith, length-table (rowsFrom 64 bs), length-rows-from 64 bs, length-map xs blockFor)
+  rows-room : (table : List ℕ) → length xs * stride ≤ length table → length (tableBytes (tableOf (map blockFor xs))) ≤ length table
+  rows-room table h = let bs = map blockFor xs in omega (arith, length-table (tableOf bs), length-rows-from 0 64 bs, length-map xs blockFor)
 
   opening : (table : List ℕ) → length xs * stride ≤ length table → (
       let f = finishedFile (map blockFor xs) stored in Opening (openOf f (length table)) f table (openOut f table) stored (map blockFor xs))
@@ -81,14 +81,15 @@ module _ (xs : List Adding) (t : Taken begunWriter xs) (stored : List ℕ) (some
     start-here = ap (λ (h : BlockHeader). h .start) head-here
 
     located-here : (table : List ℕ) → length xs * stride ≤ length table
-        → rowIn (openOut (finishedFile (map blockFor xs) stored) table) (length xs) (length before) ≡ given (rowFor (endFrom 64 (map blockFor before)) (blockFor a))
+        → rowIn (openOut (finishedFile (map blockFor xs) stored) table) (length xs) (length before)
+        ≡ given (rowFor (length before) (endFrom 64 (map blockFor before)) (blockFor a))
     located-here table h =
         let r =
         row-finished (map blockFor xs) (blocks-valid xs t) (blocks-few xs t) stored some fits (map blockFor before) (blockFor a) (map blockFor after-it)
         split-blocks table (rows-room table h) in
         let o = openOut (finishedFile (map blockFor xs) stored) table in
         ap (λ (n : ℕ). rowIn o n (length before)) (sym (length-map xs blockFor))
-        ∙ ap (λ (i : ℕ). rowIn o (length (map blockFor xs)) i) (sym (length-map before blockFor)) ∙ r
+        ∙ (rw (length-map before blockFor) at r)
 
     reading : (names : ℕ) → after begunWriter xs .given ≤ names → (table : List ℕ) → length xs * stride ≤ length table
         → Reading (finishedFile (map blockFor xs) stored) (openOut (finishedFile (map blockFor xs) stored) table) (length xs) names before a
@@ -103,10 +104,12 @@ module _ (xs : List Adding) (t : Taken begunWriter xs) (stored : List ℕ) (some
         let l : a .names ≤ names = omega arith in
         let reads = ap (λ (s : Epoch). entriesOf (a .plain) (s .0) names) start-here ∙ more-names a es e names l in
         record {
-          row = rowFor (endFrom 64 (map blockFor before)) (blockFor a);
+          row = rowFor (length before) (endFrom 64 (map blockFor before)) (blockFor a);
           located = located-here table h;
           row-is = refl;
-          stored = stored-finished bs v few stored some fits (map blockFor before) (blockFor a) (map blockFor after-it) split-blocks;
+          stored =
+              rw (length-map before blockFor) at
+              (stored-finished bs v few stored some fits (map blockFor before) (blockFor a) (map blockFor after-it) split-blocks);
           start = start-here;
           accepted = block-finished bs v few stored some fits a es e names l (map blockFor before) (map blockFor after-it) split-blocks;
           entries = es;

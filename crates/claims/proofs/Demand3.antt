@@ -10,11 +10,11 @@ use lib.ListN.{length, length-map}
 use Rattle.verdict.specs.Rules.{Verdict, given, refused}
 use Rattle.verdict.proofs.Laws.{least-breaks}
 use Rattle.wire.proofs.Splices.{splice-there}
-use Rattle.parts.specs.declared.IndexRow.{IndexRow}
+use Rattle.rows.specs.declared.Row.{Row}
 use Rattle.parts.specs.Rules.{headerRules}
 use Rattle.rows.specs.Rows.{stride, tableBytes}
 use Rattle.rows.proofs.Rows.{length-table}
-use Rattle.layout.specs.Layout.{Block, rowsFrom, endFrom}
+use Rattle.layout.specs.Layout.{Block, endFrom, tableOf}
 use Rattle.layout.proofs.Along.{length-rows-from}
 use Rattle.writer.specs.State.{begunWriter, newWriter}
 use Rattle.writer_blocks.specs.Block.{Adding, blockFor}
@@ -35,14 +35,14 @@ use Rattle.claims.proofs.Closings.{file-is}
 
 -- ---- recovery and repair as calls
 
-report-is : (x : Report) (rows : List IndexRow) (end : ℕ) (stop : Verdict) (whole : Bool) → x .rows ≡ rows → x .end ≡ end → x .stop ≡ stop → x .whole ≡ whole
+report-is : (x : Report) (rows : List Row) (end : ℕ) (stop : Verdict) (whole : Bool) → x .rows ≡ rows → x .end ≡ end → x .stop ≡ stop → x .whole ≡ whole
     → x ≡ record { rows = rows; end = end; stop = stop; whole = whole }
 report-is x rows end stop whole a b c d = rw (← a, ← b, ← c, ← d)
 
 recovery-by : (f : List ℕ) (bs : List Block) (part : ℕ) (ds : List (List ℕ)) → Reports f bs part ds → (table : List ℕ) → length bs * stride ≤ length table
     → Recovery (recoverOf f (length table)) table (recoverOut f table) bs (stopFor (endFrom 64 bs) part) (some ds)
 recovery-by f bs part ds r table room =
-    let l : length (tableBytes (rowsFrom 64 bs)) ≤ length table = omega (arith, length-table (rowsFrom 64 bs), length-rows-from 64 bs) in
+    let l : length (tableBytes (tableOf bs)) ≤ length table = omega (arith, length-table (tableOf bs), length-rows-from 0 64 bs) in
     record {
       gives = recover-gives f bs part ds r table l ∙ ap given (report-is (reportOf f) _ _ _ _ (r .rows) (r .end) (r .stop) (r .whole));
       leaves = recover-leaves f bs part ds r table l;

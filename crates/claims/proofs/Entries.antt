@@ -38,7 +38,7 @@ use Rattle.writer.specs.Begin.{beginRules, beginOf}
 use Rattle.writer_names.specs.Name.{heldAs, nameRules, withName, namingOf}
 use Rattle.writer_names.specs.Name as writer
 use Rattle.writer_entries.specs.Entry.{startFor, earliestFor, deltaFor, timeRules, entryRules, withEntry, entryOf, entryOut}
-use Rattle.writer_blocks.specs.Block.{Adding, readBy, blockFor, takeRules, roomRules, blockRules, withBlock, blockOf}
+use Rattle.writer_blocks.specs.Block.{Adding, readBy, blockFor, takeRules, storeRules, blockRules, withBlock, blockOf}
 use Rattle.writer.specs.Close.{closeRules, closed, closeOf}
 use Rattle.writer.proofs.Turns.{turn-begun, bounded}
 use Rattle.writer_entries.proofs.Entries.{start-open, earliest-open, start-new, earliest-new, time-from}
@@ -332,7 +332,7 @@ module _ (k : Writing) (es : List Entry) (g : Opened (k .writer) (k .payload) es
       let w = k .writer in
       let a = openAdding k stored in
       let v = verdictIn (readBy a) in
-      let room = roomRules w stored (length t) (length out) in
+      let room = storeRules w stored (length t) (length out) in
       settle-verdict (firstBroken (blockRules w a (length t) (length out))) _
       ∙ then-sound (begunRules w) (takeRules w a ++ (ruled v ++ room)) (b (g .turn h))
       ∙ then-sound (takeRules w a) (ruled v ++ room) (adding-takes t stored out r)

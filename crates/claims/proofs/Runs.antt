@@ -10,9 +10,9 @@ use Rattle.verdict.specs.Rules.{Verdict, sound, broken, firstBroken}
 use Rattle.verdict.proofs.Laws.{then-broken, never-both}
 use Rattle.wire.specs.Wire.{Bytes}
 use Rattle.wire.proofs.Splices.{splice-front}
-use Rattle.rows.specs.Rows.{stride, rowsOf, tableBytes}
+use Rattle.rows.specs.Rows.{stride, rowsOf, tableBytes, rowsWith}
 use Rattle.rows.proofs.Rows.{rows-back, length-table, table-append}
-use Rattle.layout.specs.Layout.{blockBytes, rowFor, rowsFrom, endFrom}
+use Rattle.layout.specs.Layout.{blockBytes, rowFor, rowsFrom, endFrom, tableOf}
 use Rattle.layout.proofs.Along.{rows-append, length-rows-from, end-from}
 use Rattle.writer.specs.declared.state.Turn.the-variants as turn
 use Rattle.writer.specs.declared.state.Writer.{Writer}
@@ -45,7 +45,7 @@ pub record Between (xs : List Adding) (w : Writer) (t : List ℕ) : Type 0 where
   pub end : w .end ≡ taken.after begunWriter xs .end
   pub given : w .given ≡ taken.after begunWriter xs .given
   pub taken : Taken begunWriter xs
-  pub rows : take (length xs * stride) t ≡ tableBytes (rowsFrom 64 (map blockFor xs))
+  pub rows : take (length xs * stride) t ≡ tableBytes (tableOf (map blockFor xs))
 
 idle-between : (xs : List Adding) (w v : Writer) (t : List ℕ) → Idle w v → Between xs w t → Between xs v t
 idle-between xs w v t i b =
@@ -87,20 +87,20 @@ module _ (xs : List Adding) (w : Writer) (t : List ℕ) (b : Between xs w t) whe
         rows = rw blocks-are at e ∙ b .rows;
       }
 
-  rows-are : rowsOf (w .blocks) t ≡ rowsFrom 64 (map blockFor xs)
+  rows-are : rowsOf (w .blocks) t ≡ tableOf (map blockFor xs)
   rows-are =
       let bs = map blockFor xs in
-      let rows = rowsFrom 64 bs in
+      let rows = tableOf bs in
       let m : length bs ≡ length xs = length-map xs blockFor in
-      let n : w .blocks ≡ length rows = blocks-are ∙ sym (length-rows-from 64 bs ∙ m) in
+      let n : w .blocks ≡ length rows = blocks-are ∙ sym (length-rows-from 0 64 bs ∙ m) in
       let split : t ≡ tableBytes rows ++ drop (length xs * stride) t =
       sym (take-append-drop (length xs * stride) t) ∙ ap (λ (l : List ℕ). l ++ drop (length xs * stride) t) (b .rows) in
       ap (rowsOf (w .blocks)) split
-      ∙ rows-back (w .blocks) rows (drop (length xs * stride) t) n (rows-fit 64 0 bs (taken-valid begunWriter xs (b .taken)) (omega (arith, few)))
+      ∙ rows-back (w .blocks) rows (drop (length xs * stride) t) n (rows-fit 0 64 0 bs (taken-valid begunWriter xs (b .taken)) (omega (arith, few)) (omega (arith, few)))
 
   -- the last four stores of a closing that is accepted
   pub closing-is : (plain stored out : List ℕ) → firstBroken (closeRules w t plain stored (length out)) ≡ sound
-      → stores w (close t plain stored out) ≡ closingStores (endOf (map blockFor xs)) (rowsFrom 64 (map blockFor xs)) stored
+      → stores w (close t plain stored out) ≡ closingStores (endOf (map blockFor xs)) (tableOf (map blockFor xs)) stored
   closing-is plain stored out e = close-stores w t plain stored out e ∙ rw (at-is, rows-are, end-from 64 0 (map blockFor xs))
 
   -- an adding that is accepted
@@ -108,20 +108,21 @@ module _ (xs : List Adding) (w : Writer) (t : List ℕ) (b : Between xs w t) whe
     pub block-is : stores w (block t a out) ≡ blockStore a (blockBytes (length xs) (blockFor a)) ∷ []
     block-is = block-stores w t a out e ∙ rw blocks-are
 
-    rows-after : take (length (xs ++ (a ∷ [])) * stride) (rowsOut w a t (length out)) ≡ tableBytes (rowsFrom 64 (map blockFor (xs ++ (a ∷ []))))
+    rows-after : take (length (xs ++ (a ∷ [])) * stride) (rowsOut w a t (length out)) ≡ tableBytes (tableOf (map blockFor (xs ++ (a ∷ []))))
     rows-after =
         let bs = map blockFor xs in
-        let rows = rowsFrom 64 bs in
-        let r = rowFor (endFrom 64 bs) (blockFor a) in
-        let at = length xs * stride in
-        let x = tableBytes (r ∷ []) in
-        let l : length x ≡ stride = omega (arith, length-table (r ∷ [])) in
-        let n : length (xs ++ (a ∷ [])) * stride ≡ at + length x = omega (arith, length-append xs (a ∷ [])) in
-        let room : at + length x ≤ length t = omega (arith, block-room w a (length t) (length out) e .0, blocks-are) in
-        let more : rows ++ (r ∷ []) ≡ rowsFrom 64 (map blockFor (xs ++ (a ∷ []))) =
-        sym (rows-append 64 bs (blockFor a)) ∙ ap (rowsFrom 64) (sym (map-append blockFor xs (a ∷ []))) in
-        rw (n, block-row w t a out e, blocks-are, at-is)
-        (splice-front t x at room ∙ ap (λ (l : List ℕ). l ++ x) (b .rows) ∙ sym (table-append rows (r ∷ [])) ∙ ap tableBytes more)
+        let r = rowFor (length xs) (endFrom 64 bs) (blockFor a) in
+        let rows = rowsWith r (tableOf bs) in
+        let k : length (tableOf bs) ≡ length xs = length-rows-from 0 64 bs ∙ length-map xs blockFor in
+        let l : length (tableBytes rows) ≡ (length xs + 1) * stride =
+        omega (arith, length-table rows, length-append (tableOf bs) (r ∷ [])) in
+        let n : length (xs ++ (a ∷ [])) * stride ≡ 0 + length (tableBytes rows) = omega (arith, length-append xs (a ∷ [])) in
+        let room : 0 + length (tableBytes rows) ≤ length t = omega (arith, block-room w a (length t) (length out) e .0, blocks-are) in
+        let number : 0 + length bs ≡ length xs = omega (arith, length-map xs blockFor) in
+        let more : rows ≡ tableOf (map blockFor (xs ++ (a ∷ []))) =
+        sym (rw number at (rows-append 0 64 bs (blockFor a))) ∙ ap tableOf (sym (map-append blockFor xs (a ∷ []))) in
+        rw (n, block-row w t a out e, rows-are, blocks-are, at-is)
+        (splice-front t (tableBytes rows) 0 room ∙ ap tableBytes more)
 
     pub block-between : Between (xs ++ (a ∷ [])) (next w (block t a out)) (rowsOut w a t (length out))
     unfolding withBlock

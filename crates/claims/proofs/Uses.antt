@@ -12,7 +12,7 @@ use Rattle.verdict.proofs.Laws.{sound-held, held-parts, parts-sound, settle-ver
 use Rattle.wire.specs.Wire.{leAt}
 use Rattle.varint.specs.Varint.{encode}
 use Rattle.parts.specs.declared.time.Epoch.{Epoch}
-use Rattle.parts.specs.declared.IndexRow.{IndexRow}
+use Rattle.rows.specs.declared.Row.{Row}
 use Rattle.rows.specs.Rows.{stride}
 use Rattle.layout.specs.Layout.{rowFor, endFrom}
 use Rattle.blocks.specs.Blocks.{headAt}
@@ -300,9 +300,9 @@ pairs-length (a ∷ xs) (b ∷ bs) fin p = ap suc (pairs-length xs bs fin (p .1)
 given-same : {A : Type 0} (a b : A) → _≡_ {A = Outcome A} (given a) (given b) → a ≡ b
 given-same a b e = cc
 
-row-start : (at : ℕ) (a : Adding) → rowFor at (blockFor a) .start ≡ a .start
+row-start : (n at : ℕ) (a : Adding) → rowFor n at (blockFor a) .start ≡ a .start
 unfolding rowFor blockFor
-row-start at a = refl
+row-start n at a = refl
 
 module _ (cs : List Call) (f plain stored : List ℕ) (two : Finished f (addings newWriter cs) plain stored) (built : HoldsNames (behind newWriting cs) (namesHeld cs))
     (is-built : plain ≡ builtNames (behind newWriting cs)) (some : 1 ≤ length (namesHeld cs))
@@ -330,7 +330,7 @@ module _ (cs : List Call) (f plain stored : List ℕ) (two : Finished f (addings
       let r = two .blocks table (rw lengths room) (s .before) (s .added) (s .later) (s .are) in
       let same : r .entries ≡ x .entries = given-same (r .entries) (x .entries) (sym (r .took) ∙ x .reads) in
       let start : r .row .start ≡ headAt f (r .row .offset) .start =
-      ap (λ (y : IndexRow). y .start) (r .row-is) ∙ row-start (endFrom 64 (map blockFor (s .before))) (s .added) ∙ sym (r .start) in
+      ap (λ (y : Row). y .start) (r .row-is) ∙ row-start (length (s .before)) (endFrom 64 (map blockFor (s .before))) (s .added) ∙ sym (r .start) in
       record {
         before = s .before;
         added = s .added;

@@ -14,7 +14,7 @@ use Rattle.crc32.specs.Crc.{crc32}
 use Rattle.utf8.specs.Utf8.{within, tails, sequences, followers, utf8From, utf8Of}
 use Rattle.varint.specs.Varint.{above, decodeIn, decode, encodeIn, encode}
 use Rattle.parts.specs.Parts.{spelled, headerFields, headerBytes, headerOf, blockHeaderFields, blockHeaderBytes}
-use Rattle.parts.specs.Parts.{blockHeaderOf, rowFields, rowBytes, rowOf, footerFields, footerBytes}
+use Rattle.parts.specs.Parts.{blockHeaderOf, indexRowFields, indexRowBytes, indexRowOf, footerFields, footerBytes}
 use Rattle.parts.specs.Rules.{headerRules}
 use Rattle.parts.specs.Time.{sinceOf, withinSpan, belongsTo}
 use Rattle.rows.specs.Rows.{rowsOf, tableBytes, firstTime, lastFrom}
@@ -70,18 +70,18 @@ bytes (b ∷ s) t (suc k) = bytes s (and-yes (ltb b 256) (below s) t .1) k
 
 pub worked : Worked
 unfolding firstBroken holds numberOf rules.placeOf ruled le fromLe leAt splice same bitStep steps byteStep crcFrom crc32 within tails sequences followers
-    utf8From utf8Of above decodeIn decode encodeIn encode spelled headerFields headerBytes headerOf blockHeaderFields blockHeaderBytes blockHeaderOf rowFields
-    rowBytes rowOf footerFields footerBytes headerRules sinceOf withinSpan belongsTo rows.rowAt rowsOf tableBytes firstTime lastFrom headOf blockBytes rowFor
-    dictionaryBytes rowsBytes indexBytes tailBytes closedHeader closingBytes storedAt endAt endAlong headRules sumRule blocks.blockRules blocks.rowAt scanFrom
+    utf8From utf8Of above decodeIn decode encodeIn encode spelled headerFields headerBytes headerOf blockHeaderFields blockHeaderBytes blockHeaderOf indexRowFields
+    indexRowBytes indexRowOf footerFields footerBytes headerRules sinceOf withinSpan belongsTo rows.rowBytes rows.rowOf rows.rowAt rows.roomRules rows.numberedFrom rowsOf tableBytes firstTime lastFrom headOf blockBytes rowFor
+    dictionaryBytes rowsBytes indexBytes tailBytes closedHeader closingBytes storedAt endAt endAlong headRules sumRule blocks.blockRules blocks.blockRow scanFrom
     scanOf rightLength rightBytes deltaRules readDelta countRules readCount idIn kindIn lengthIn bytesIn sizeIn cursor.fieldRules readField asDelta deltaAt
     asField fieldAt valueAt valIn readFields entries.orderRules readEntry entriesFrom entriesOf lastTime packField packFields fieldIn fieldsIn fieldSize
     fieldsSize entrySize entryBytes partRight textRules packing.fieldRules packing.roomRules sizedRules packRules recordsIn valueFor recordAt recordsFrom
     fieldsOf nameAt nextAt dictionary.placeOf dictionary.nameOf held shapeRules newRule namesRules dictionary.dictionaryRules isName seekFrom printable
     printRules labelRules shortened labelOf padded abridged labelBytes labelOut listed chosen query.orderRules query.countRules queryRules queryOf queryOut
     frame.dictionaryRules wholeDictionary frameOf placeRules indexSize lengthRules indexRules footerRules frameRules indexRows rowRules blocksRules
-    afterRules rowsIn openRules reader.roomRules reader.callRules openOf limitOf offsetRules recoverRules reportOf recovery.roomRules recovery.callRules
+    afterRules rowsIn openRules reader.callRules openOf limitOf offsetRules recoverRules reportOf recovery.callRules
     recoverOf isNew isBegun isOpen boundRules begunRules firstBytes beginRules beginOf beginOut heldAs newRules nameRules withName name.nameOf nameBytes
-    appended nameOut startFor earliestFor deltaFor timeRules entryRules withEntry entryOf entryOut readBy blockFor takeRules block.roomRules
+    appended nameOut startFor earliestFor deltaFor timeRules entryRules withEntry entryOf entryOut readBy blockFor takeRules block.storeRules
     block.blockRules withBlock blockOf rowsOut blockOut lastBytes endRules lastRules closeRules closeOf closeOut storeBytes total headed put disk verdictFor
     next lastStores handed stores run dictionaryAfter payloadAfter tableAfter behind Fair namesBytes plainNames smallOpen smallAdded smallClosed verdicts
 worked =

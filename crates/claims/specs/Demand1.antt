@@ -6,7 +6,7 @@ use mathlib.Core.List.{List, []}
 use Prim.Native.Nat.{ℕ}
 use lib.ListN.{length}
 use Rattle.verdict.specs.Rules.{broken, refused}
-use Rattle.parts.specs.declared.IndexRow.{IndexRow}
+use Rattle.rows.specs.declared.Row.{Row}
 use Rattle.parts.specs.declared.time.Epoch.{Epoch}
 use Rattle.reader.specs.Open.{openOf, openOut}
 use Rattle.recovery.specs.Recovery.{recoverOf, recoverOut}
@@ -25,6 +25,6 @@ pub record RefusalsLeave : Type 0 where
   pub recovers : (f table : List ℕ) (n p : ℕ) → recoverOf f (length table) ≡ refused n p → recoverOut f table ≡ table
   pub repairs : (f lent out : List ℕ) (n p : ℕ) → repairOf f lent (length out) ≡ refused n p
       → repairOut f lent out ≡ out
-  pub queries : (rows : List IndexRow) (t1 t2 : Epoch) (numbers : List ℕ) (n p : ℕ)
+  pub queries : (rows : List Row) (t1 t2 : Epoch) (numbers : List ℕ) (n p : ℕ)
       → queryOf rows t1 t2 (length numbers) ≡ refused n p → queryOut rows t1 t2 numbers ≡ numbers
   pub labels : (name panel : List ℕ) (n p : ℕ) → labelOf name (length panel) ≡ refused n p → labelOut name panel ≡ panel

@@ -7,10 +7,10 @@ use Prim.Native.Nat.{ℕ, _+_, _*_, _≤_}
 use lib.ListN.{length}
 use Rattle.verdict.specs.Rules.{sound, broken, Outcome, given}
 use Rattle.wire.specs.Wire.{Bytes, leAt, splice}
-use Rattle.parts.specs.declared.IndexRow.{IndexRow}
+use Rattle.rows.specs.declared.Row.{Row}
 use Rattle.rows.specs.Rows.{stride, tableBytes, firstTime}
 use Rattle.rows.specs.Rows as rows
-use Rattle.layout.specs.Layout.{Block, blocksBytes, rowFor, rowsFrom, endFrom, finishedBytes}
+use Rattle.layout.specs.Layout.{Block, blocksBytes, rowFor, endFrom, finishedBytes, tableOf}
 use Rattle.blocks.specs.Blocks.{headAt}
 use Rattle.entries.specs.Model.{Entry}
 use Rattle.entries.specs.Reading.{entriesOf, lastTime}
@@ -42,11 +42,11 @@ pub record Opening (answer : Outcome Frame) (f table left stored : List ℕ) (bs
   pub size : frame .stored ≡ length stored
   pub index : frame .index ≡ 64 + length (blocksBytes 0 bs) + 4 + length stored
   -- "First and last time are the first block's start and the last block's end, both 0 with no blocks"
-  pub first : frame .first .0 ≡ firstTime (rowsFrom 64 bs)
-  pub last : frame .last .0 ≡ rows.lastTime (rowsFrom 64 bs)
+  pub first : frame .first .0 ≡ firstTime (tableOf bs)
+  pub last : frame .last .0 ≡ rows.lastTime (tableOf bs)
   -- the table then has "start taken, end (the last entry's time), place [..], stored length" of each block, and is
   -- unchanged behind them
-  pub leaves : left ≡ splice table 0 (tableBytes (rowsFrom 64 bs))
+  pub leaves : left ≡ splice table 0 (tableBytes (tableOf bs))
   -- the dictionary that is handed back is the one that closing took
   pub dictionary : dictionaryIn f frame ≡ stored
 
@@ -54,9 +54,9 @@ pub record Opening (answer : Outcome Frame) (f table left stored : List ℕ) (bs
 -- names
 pub record Reading (f table : List ℕ) (blocks names : ℕ) (before : List Adding) (a : Adding) : Type 0 where
   -- asked for by its number it has its own row: "numbered 0, 1, 2"
-  pub row : IndexRow
+  pub row : Row
   pub located : rowIn table blocks (length before) ≡ given row
-  pub row-is : row ≡ rowFor (endFrom 64 (map blockFor before)) (blockFor a)
+  pub row-is : row ≡ rowFor (length before) (endFrom 64 (map blockFor before)) (blockFor a)
   -- "stored bytes (in the file, opaque)": those that the adding took
   pub stored : storedOf f row ≡ a .stored
   -- the header that stands in the file there accepts the plain bytes that the adding took, "by the reader's rules",
@@ -73,7 +73,7 @@ pub record Reading (f table : List ℕ) (blocks names : ℕ) (before : List Addi
 -- all of it, of a file, the addings, and what closing took
 pub record Finished (f : List ℕ) (xs : List Adding) (plain stored : List ℕ) : Type 0 where
   -- "The file, byte by byte", of the addings' blocks and the stored dictionary
-  pub bytes : f ≡ finishedBytes (rowsFrom 64 (map blockFor xs)) (blocksBytes 0 (map blockFor xs)) stored
+  pub bytes : f ≡ finishedBytes (tableOf (map blockFor xs)) (blocksBytes 0 (map blockFor xs)) stored
   pub opens : (table : List ℕ) → length xs * stride ≤ length table
       → Opening (openOf f (length table)) f table (openOut f table) stored (map blockFor xs)
   pub blocks : (table : List ℕ) → length xs * stride ≤ length table

@@ -8,7 +8,7 @@ use lib.ListN.{length, take}
 use Rattle.verdict.specs.Rules.{Verdict, Outcome, given, refused}
 use Rattle.wire.specs.Wire.{splice}
 use Rattle.rows.specs.Rows.{stride, tableBytes}
-use Rattle.layout.specs.Layout.{Block, rowsFrom, endFrom}
+use Rattle.layout.specs.Layout.{Block, endFrom, tableOf}
 use Rattle.writer.specs.State.{newWriter}
 use Rattle.writer_blocks.specs.Block.{Adding, blockFor}
 use Rattle.recovery.specs.Recovery.{Report, recoverOf, recoverOut}
@@ -21,8 +21,8 @@ use Rattle.claims.specs.Calls.{Call, close, run, addings, newWriting, Fa
 -- the number and place that stopped it (0 for a clean end) and whether a whole dictionary stands at D"
 pub record Recovery
     (answer : Outcome Report) (table left : List ℕ) (bs : List Block) (stop : Verdict) (whole : Bool) : Type 0 where
-  pub gives : answer ≡ given (record { rows = rowsFrom 64 bs; end = endFrom 64 bs; stop = stop; whole = whole })
-  pub leaves : left ≡ splice table 0 (tableBytes (rowsFrom 64 bs))
+  pub gives : answer ≡ given (record { rows = tableOf bs; end = endFrom 64 bs; stop = stop; whole = whole })
+  pub leaves : left ≡ splice table 0 (tableBytes (tableOf bs))
 
 -- what repair answers, and leaves in a lent buffer: this file, byte for byte, with so many bytes of the old one kept
 pub record Repair (answer : Outcome Kept) (out left file : List ℕ) (kept : ℕ) : Type 0 where

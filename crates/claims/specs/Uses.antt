@@ -5,7 +5,7 @@ use mathlib.Core.List.{List, [], _∷_, _++_, map}
 use Prim.Native.Nat.{ℕ, _*_, _≤_}
 use lib.ListN.{length, getD}
 use Rattle.verdict.specs.Rules.{sound, given}
-use Rattle.parts.specs.declared.IndexRow.{IndexRow}
+use Rattle.rows.specs.declared.Row.{Row}
 use Rattle.rows.specs.Rows.{stride}
 use Rattle.blocks.specs.Blocks.{headAt}
 use Rattle.cursor.specs.Model.{Val}
@@ -101,7 +101,7 @@ pub record BlockRead
   pub later : List Adding
   pub addings-are : xs ≡ before ++ (added ∷ later)
   pub number : length before ≡ i
-  pub row : IndexRow
+  pub row : Row
   pub located : rowIn table blocks i ≡ given row
   pub stored : storedOf f row ≡ added .stored
   pub start : row .start ≡ headAt f (row .offset) .start

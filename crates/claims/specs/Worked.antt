@@ -8,7 +8,7 @@ use lib.IntN.{negsuc}
 use lib.ListN.{length, take, replicate}
 use Rattle.verdict.specs.Rules.{Verdict, sound, broken, Outcome, given}
 use Rattle.wire.specs.Wire.{le}
-use Rattle.parts.specs.declared.IndexRow.{IndexRow}
+use Rattle.rows.specs.declared.Row.{Row}
 use Rattle.parts.specs.declared.time.Epoch.{Epoch}
 use Rattle.parts.specs.Time.{belongsTo}
 use Rattle.rows.specs.Rows.{tableBytes}
@@ -61,8 +61,8 @@ smallStored = 0xAA ∷ 0xBB ∷ 0xCC ∷ []
 abbrev pub smallAdding : Adding
 smallAdding = adding (time 1000) smallPlain smallStored 2
 
-abbrev smallRow : IndexRow
-smallRow = record { start = time 1000; end = time 1005; offset = 64; stored = 3 }
+abbrev smallRow : Row
+smallRow = record { start = time 1000; end = time 1005; offset = 64; stored = 3; number = 0 }
 
 -- a record of a table of fields: u16 id, u8 type, 5 bytes of no meaning, u64 bits or place, u64 length
 abbrev fieldRecord : (id kind bits size : ℕ) → List ℕ
@@ -89,7 +89,7 @@ smallOpen =
 
 -- and the block: "header not yet closed"
 unfoldable pub smallAdded : List Call
-smallAdded = smallOpen ++ (block (zeros 28) smallAdding (zeros 39) ∷ [])
+smallAdded = smallOpen ++ (block (zeros 32) smallAdding (zeros 39) ∷ [])
 
 -- and closing: "stored dictionary one byte"
 unfoldable pub smallClosed : List Call
@@ -144,7 +144,7 @@ pub record Worked : Type 0 where
   pub names : builtNames (behind newWriting smallOpen) ≡ smallNames
   pub plain : openAdding (behind newWriting smallOpen) smallStored ≡ smallAdding
   -- "D = 103, index at 108, length 176"
-  pub opens : openOf smallFile 28 ≡ given smallFrame
+  pub opens : openOf smallFile 32 ≡ given smallFrame
   pub size : length smallFile ≡ 176
   -- "varint AC 02: 300"
   pub k1 : deltaAt (0xAC ∷ 0x02 ∷ []) 0 ≡ delta.Delta (record { 0 = 300 }) (record { at = 2 })
@@ -166,9 +166,9 @@ pub record Worked : Type 0 where
   pub k8 : Labels (letters 0x61 16) (given false) (letters 0x61 16)
       × Labels (letters 0x61 17) (given true) (letters 0x61 8 ++ (0x7E ∷ letters 0x6B 7))
   -- "small file cut at 102 / at 103, header not yet closed: no block / one block"
-  pub k9 : (recoverOf (diskOf 102 smallAdded) 28 ≡ given noBlock)
-      × (recoverOf (diskOf 103 smallAdded) 28 ≡ given (oneBlock false))
+  pub k9 : (recoverOf (diskOf 102 smallAdded) 32 ≡ given noBlock)
+      × (recoverOf (diskOf 103 smallAdded) 32 ≡ given (oneBlock false))
   -- cut in closing: "a second header not whole by then leaves the first"; the dictionary not yet whole, and whole
   pub later : (diskOf 166 smallClosed ≡ diskOf 103 smallAdded)
-      × (recoverOf (diskOf 171 smallClosed) 28 ≡ given (oneBlock false))
-      × (recoverOf (diskOf 172 smallClosed) 28 ≡ given (oneBlock true))
+      × (recoverOf (diskOf 171 smallClosed) 32 ≡ given (oneBlock false))
+      × (recoverOf (diskOf 172 smallClosed) 32 ≡ given (oneBlock true))

@@ -8,7 +8,7 @@ use lib.ListN.{length, getD, length-map}
 use Rattle.verdict.specs.Rules.{flag, sound, firstBroken, Outcome, given, refused}
 use Rattle.verdict.proofs.Laws.{first-none, least-holds, then-sound, settle-given}
 use Rattle.wire.specs.Wire.{leAt, part}
-use Rattle.parts.specs.declared.IndexRow.{IndexRow}
+use Rattle.rows.specs.declared.Row.{Row}
 use Rattle.rows.specs.Rows.{stride, rowAt}
 use Rattle.layout.specs.Layout.{rowFor}
 use Rattle.cursor.specs.Model as model
@@ -129,7 +129,7 @@ module _ (f rows frame stored : List ℕ) (xs : List Adding) (l : Lends rows fra
 
 -- ---- a block
 
-row-located : (table : List ℕ) (blocks i : ℕ) (row : IndexRow) → rowIn table blocks i ≡ given row → rowAt table i ≡ row
+row-located : (table : List ℕ) (blocks i : ℕ) (row : Row) → rowIn table blocks i ≡ given row → rowAt table i ≡ row
 unfolding rowIn
 row-located table blocks i row e =
     let rules = flag 14 i (ltb i blocks) ∷ flag 14 i (ltb i (length table / stride)) ∷ [] in
@@ -140,7 +140,7 @@ edge-block : (f rows : List ℕ) (blocks names : ℕ) (before : List Adding) (a 
 unfolding rowFor blockFor storedOf
 edge-block f rows blocks names before a r =
     let e : rowAt rows (length before) ≡ r .row = row-located rows blocks (length before) (r .row) (r .located) in
-    let start : r .row .start ≡ a .start = ap (λ (x : IndexRow). x .start) (r .row-is) in
+    let start : r .row .start ≡ a .start = ap (λ (x : Row). x .start) (r .row-is) in
     record {
       start = rw e start;
       stored = rw e (r .stored);

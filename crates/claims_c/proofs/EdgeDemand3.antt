@@ -33,7 +33,7 @@ module _ (f rows report : List ℕ) where
       let h : firstBroken (cRecoverRules f (length rows) (length report)) ≡ sound =
       then-sound (callRules f (length rows)) _ (g .0) ∙ least-holds _ _ _ _ _ l ∙ first-none in
       record {
-        answers = rw (h, ← g .1, length-rows-from 64 bs);
+        answers = rw (h, ← g .1, length-rows-from 0 64 bs);
         leaves-rows = rw (h, ← g .1);
         leaves-report = rw (h, ← g .1);
       }

@@ -8,7 +8,7 @@ use lib.ListN.{length, take}
 use Rattle.verdict.specs.Rules.{Verdict, given, refused}
 use Rattle.wire.specs.Wire.{splice}
 use Rattle.rows.specs.Rows.{stride, tableBytes}
-use Rattle.layout.specs.Layout.{Block, rowsFrom, endFrom}
+use Rattle.layout.specs.Layout.{Block, endFrom, tableOf}
 use Rattle.writer_blocks.specs.Block.{Adding, blockFor}
 use Rattle.repair.specs.Repair.{repairOut}
 use Rattle.c_answer.specs.Answer.{answered}
@@ -23,7 +23,7 @@ use Rattle.claims_c.specs.Edge.{newState, cRun}
 -- [..], number and place of what stopped the scan (0 and 0 for a clean end), 1 where a whole dictionary stands"
 pub record EdgeRecovery (f rows report : List ℕ) (bs : List Block) (stop : Verdict) (whole : Bool) : Type 0 where
   pub answers : cRecoverOf f (length rows) (length report) ≡ answered (given (length bs))
-  pub leaves-rows : cRecoverRows f rows (length report) ≡ splice rows 0 (tableBytes (rowsFrom 64 bs))
+  pub leaves-rows : cRecoverRows f rows (length report) ≡ splice rows 0 (tableBytes (tableOf bs))
   pub leaves-report : cRecoverReport f (length rows) report
       ≡ splice report 0 (reportBytes (endFrom 64 bs) stop whole)
 

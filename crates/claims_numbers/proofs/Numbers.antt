@@ -7,7 +7,7 @@ use lib.Dec.{ltb, eqb}
 use lib.ListN.{length}
 use Rattle.verdict.specs.Rules.{Rule, flag, numberOf, Verdict, sound, broken, firstBroken, Outcome, given, refused, settle, onGiven, verdictIn, ruled}
 use Rattle.crc32.specs.Crc.{crc32}
-use Rattle.parts.specs.declared.IndexRow.{IndexRow}
+use Rattle.rows.specs.declared.Row.{Row}
 use Rattle.parts.specs.declared.time.Epoch.{Epoch}
 use Rattle.parts.specs.Parts.{headerOf}
 use Rattle.parts.specs.Rules.{headerRules}
@@ -29,7 +29,7 @@ use Rattle.lookup.specs.Lookup.{Found, numbered, missing, lookupOf, seekOf}
 use Rattle.label.specs.Label.{labelOf}
 use Rattle.frame.specs.Frame as frame
 use Rattle.reader.specs.Open as reader
-use Rattle.rows.specs.Rows.{stride}
+use Rattle.rows.specs.Rows.{stride, roomRules}
 use Rattle.access.specs.Access as access
 use Rattle.query.specs.Query as query
 use Rattle.query_slice.specs.Slices as slices
@@ -41,7 +41,7 @@ use Rattle.writer.specs.Begin.{Step, beginRules, beginOf}
 use Rattle.writer.specs.Close.{endRules, lastRules, closeRules, closeOf}
 use Rattle.writer_names.specs.Name as naming
 use Rattle.writer_entries.specs.Entry as entering
-use Rattle.writer_blocks.specs.Block.{Adding, readBy, takeRules, roomRules, blockRules, blockOf}
+use Rattle.writer_blocks.specs.Block.{Adding, readBy, takeRules, storeRules, blockRules, blockOf}
 use Rattle.book.specs.Book as book
 use Rattle.contents.specs.Contents as contents
 use Rattle.listing_input.specs.Input as input
@@ -103,7 +103,7 @@ unfolding reader.openRules reader.afterRules allListed numberOf
 open-numbered f = both (frame.frameRules f) _ (frame-numbered f) (both (reader.blocksRules crc32 _ f _ 64 0 0 _) _ (blocks-numbered crc32 _ f _ 64 0 0 _) refl)
 
 open-call-numbered : (f : List ℕ) (room : ℕ) → allListed (reader.callRules f room) ≡ true
-unfolding reader.callRules reader.roomRules allListed numberOf
+unfolding reader.callRules roomRules allListed numberOf
 open-call-numbered f room = both (reader.openRules crc32 f) _ (open-numbered f) refl
 
 recover-numbered : (f : List ℕ) → allListed (recovery.recoverRules f) ≡ true
@@ -111,7 +111,7 @@ unfolding recovery.recoverRules recovery.offsetRules allListed numberOf
 recover-numbered f = both (headerRules f) _ (header-numbered f) refl
 
 recover-call-numbered : (f : List ℕ) (room : ℕ) → allListed (recovery.callRules f room) ≡ true
-unfolding recovery.callRules recovery.roomRules allListed numberOf
+unfolding recovery.callRules roomRules allListed numberOf
 recover-call-numbered f room = both (recovery.recoverRules f) _ (recover-numbered f) refl
 
 -- what stops a scan
@@ -156,16 +156,16 @@ repair-numbered f lent room =
 
 -- ---- rows
 
-rows-numbered : (i : ℕ) (t : Epoch) (rows : List IndexRow) → allListed (query.orderRules i t rows) ≡ true
+rows-numbered : (i : ℕ) (t : Epoch) (rows : List Row) → allListed (query.orderRules i t rows) ≡ true
 unfolding query.orderRules allListed numberOf
 rows-numbered i t [] = refl
 rows-numbered i t (r ∷ rows) = rows-numbered (i + 1) (r .end) rows
 
-count-listed : (rows : List IndexRow) (t1 t2 : Epoch) → Listed (verdictIn (query.countOf rows t1 t2))
+count-listed : (rows : List Row) (t1 t2 : Epoch) → Listed (verdictIn (query.countOf rows t1 t2))
 unfolding query.countOf query.countRules allListed numberOf
 count-listed rows t1 t2 = settled (query.countRules rows t1 t2) _ (rows-numbered 0 query.earliest rows)
 
-query-numbered : (rows : List IndexRow) (t1 t2 : Epoch) (room : ℕ) → allListed (query.queryRules rows t1 t2 room) ≡ true
+query-numbered : (rows : List Row) (t1 t2 : Epoch) (room : ℕ) → allListed (query.queryRules rows t1 t2 room) ≡ true
 unfolding query.queryRules query.countRules allListed numberOf
 query-numbered rows t1 t2 room = both (query.orderRules 0 query.earliest rows) _ (rows-numbered 0 query.earliest rows) refl
 
@@ -178,12 +178,12 @@ header-listed : (log rows : List ℕ) (i : ℕ) → Listed (verdictIn (headerIn 
 unfolding headerIn allListed numberOf
 header-listed log rows i = go (access.rowIn rows (length rows / stride) i) (row-listed rows (length rows / stride) i)
   where
-    go : (o : Outcome IndexRow) → Listed (verdictIn o)
+    go : (o : Outcome Row) → Listed (verdictIn o)
         → Listed (verdictIn (onGiven o (λ row. settle (firstBroken (block.headerRules log (row .offset))) (row .offset))))
     go (given row) h = settled (block.headerRules log (row .offset)) _ refl
     go (refused n p) h = h
 
-slice-row-listed : (rows : List IndexRow) (i : ℕ) → Listed (verdictIn (slices.rowIn rows i))
+slice-row-listed : (rows : List Row) (i : ℕ) → Listed (verdictIn (slices.rowIn rows i))
 unfolding slices.rowIn allListed numberOf
 slice-row-listed rows i = settled (flag 14 i (ltb i (length rows)) ∷ []) _ refl
 
@@ -212,7 +212,7 @@ unfolding entering.entryRules entering.timeRules allListed numberOf
 entry-numbered w t text count fs room = both (begunRules w) _ (begun-numbered w) (pack-numbered room _ _ _ text count fs)
 
 adding-numbered : (w : Writer) (a : Adding) (table room : ℕ) → allListed (blockRules w a table room) ≡ true
-unfolding blockRules takeRules readBy roomRules allListed numberOf
+unfolding blockRules takeRules readBy storeRules allListed numberOf
 adding-numbered w a table room =
     let v = verdictIn (entriesOf (a .plain) (a .start .0) (a .names)) in
     both (begunRules w) _ (begun-numbered w) (both (ruled v) _ (ruled-numbered v (entries-listed (a .plain) (a .start .0) (a .names))) refl)
@@ -284,7 +284,7 @@ header-returns : (log : List ℕ) (o : Outcome ℕ) → Listed (verdictIn o) →
 header-returns log (given at) h = refl
 header-returns log (refused n p) h = (refl, h)
 
-stored-returns : (o : Outcome IndexRow) (f : IndexRow → access-span.Span) → Listed (verdictIn o)
+stored-returns : (o : Outcome Row) (f : Row → access-span.Span) → Listed (verdictIn o)
     → Returns (verdictIn o) (stored.spanAnswer (onGiven o (λ row. given (f row))) .number)
 stored-returns (given a) f h = refl
 stored-returns (refused n p) f h = (refl, h)
@@ -366,7 +366,7 @@ repair-listed : (f lent : List ℕ) (room : ℕ) → Listed (verdictIn (repair.r
 unfolding repair.repairOf
 repair-listed f lent room = settled (repair.repairRules f lent room) _ (repair-numbered f lent room)
 
-query-listed : (rows : List IndexRow) (t1 t2 : Epoch) (room : ℕ) → Listed (verdictIn (query.queryOf rows t1 t2 room))
+query-listed : (rows : List Row) (t1 t2 : Epoch) (room : ℕ) → Listed (verdictIn (query.queryOf rows t1 t2 room))
 unfolding query.queryOf
 query-listed rows t1 t2 room = settled (query.queryRules rows t1 t2 room) _ (query-numbered rows t1 t2 room)
 

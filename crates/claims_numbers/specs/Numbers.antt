@@ -11,7 +11,7 @@ use lib.ListN.{length}
 use Rattle.verdict.specs.Rules.{Verdict, sound, broken, firstBroken, verdictIn}
 use Rattle.crc32.specs.Crc.{crc32}
 use Rattle.parts.specs.declared.BlockHeader.{BlockHeader}
-use Rattle.parts.specs.declared.IndexRow.{IndexRow}
+use Rattle.rows.specs.declared.Row.{Row}
 use Rattle.parts.specs.declared.time.Epoch.{Epoch}
 use Rattle.parts.specs.Rules.{headerRules}
 use Rattle.blocks.specs.Blocks as blocks
@@ -135,9 +135,9 @@ pub record TableNumbers : Type 0 where
   pub repair : (f lent : List ℕ) (room : ℕ) → Listed (verdictIn (repairOf f lent room))
   -- rows: one of a table and one of a slice, the choice of blocks, counted and listed
   pub row : (table : List ℕ) (blocks i : ℕ) → Listed (verdictIn (access.rowIn table blocks i))
-  pub slice-row : (rows : List IndexRow) (i : ℕ) → Listed (verdictIn (slices.rowIn rows i))
-  pub query-count : (rows : List IndexRow) (t1 t2 : Epoch) → Listed (verdictIn (countOf rows t1 t2))
-  pub query : (rows : List IndexRow) (t1 t2 : Epoch) (room : ℕ) → Listed (verdictIn (queryOf rows t1 t2 room))
+  pub slice-row : (rows : List Row) (i : ℕ) → Listed (verdictIn (slices.rowIn rows i))
+  pub query-count : (rows : List Row) (t1 t2 : Epoch) → Listed (verdictIn (countOf rows t1 t2))
+  pub query : (rows : List Row) (t1 t2 : Epoch) (room : ℕ) → Listed (verdictIn (queryOf rows t1 t2 room))
   -- the writer: its turn, and its calls
   pub turn : (w : Writer) → Listed (firstBroken (begunRules w))
   pub begin : (w : Writer) (room : ℕ) → Listed (verdictIn (beginOf w room))

@@ -10,11 +10,11 @@ use lib.Dec.{leb, leb·suc-zero}
 use lib.ListN.{length, take, drop, length-append}
 use lib.Seq.{take-nil, take-all, drop-at, length-take-le}
 use borrow.Author.Tests.{le-leb, lt-leb}
-use Rattle.parts.specs.declared.IndexRow.{IndexRow}
+use Rattle.rows.specs.declared.Row.{Row}
 use Rattle.parts.specs.Parts.{emptyHeader, headerBytes, footerBytes}
 use Rattle.parts.proofs.Parts.{length-header}
-use Rattle.layout.specs.Layout.{Block, blockBytes, blockSize, blocksBytes, rowsFrom, dictionaryBytes, indexBytes, tailBytes, closedHeader}
-use Rattle.layout.specs.Layout.{closingBytes, finishedBytes}
+use Rattle.layout.specs.Layout.{Block, blockBytes, blockSize, blocksBytes, dictionaryBytes, indexBytes, tailBytes, closedHeader}
+use Rattle.layout.specs.Layout.{closingBytes, finishedBytes, tableOf}
 use Rattle.layout.proofs.Parts.{length-block, length-dictionary, length-tail, length-closing}
 use Rattle.writer_blocks.specs.Block.{Adding, blockFor}
 use Rattle.disk.specs.Disk.{Store, headerStore, blockStore, dictionaryStore, endStore, storeBytes, total, headed, put, disk, finished}
@@ -23,7 +23,7 @@ use Rattle.disk.proofs.Stores.{storesBytes, blockStores, closingStores,
 use Rattle.disk.proofs.Full.{full, full-all, partOf, part-none}
 
 -- what closing hands out is its stores end to end
-closing-bytes : (at : ℕ) (rows : List IndexRow) (d : List ℕ) → storesBytes (closingStores at rows d) ≡ closingBytes at rows d
+closing-bytes : (at : ℕ) (rows : List Row) (d : List ℕ) → storesBytes (closingStores at rows d) ≡ closingBytes at rows d
 unfolding storesBytes closingStores storeBytes closingBytes tailBytes
 closing-bytes at rows d = rw (append-nil (footerBytes (record { index = at + 4 + length d })))
 
@@ -90,7 +90,7 @@ disk-none cut ss h =
     rw (length-header emptyHeader, lt-leb 64 cut h, e, disk-zero (take cut first) ss) (length-take-le cut first (rw length-header (omega arith)))
 
 -- the last four stores
-module _ (k at : ℕ) (f : List ℕ) (rows : List IndexRow) (d : List ℕ) where
+module _ (k at : ℕ) (f : List ℕ) (rows : List Row) (d : List ℕ) where
   disk-cut : k < 64 → 64 ≤ length f → disk k f (closingStores at rows d) ≡ f
   unfolding disk storeBytes closingStores
   disk-cut h l =
@@ -149,15 +149,15 @@ standing-blocks p cut n (a ∷ xs) ss z =
     rw (length-block n (blockFor a), standing-blocks (p + blockSize (blockFor a)) cut (suc n) xs ss z)
 
 -- of a closing: no block, and the dictionary by its last byte
-pub closing-addings : (p cut at : ℕ) (rows : List IndexRow) (d : List ℕ) → inFull addingOf p cut (closingStores at rows d) ≡ []
+pub closing-addings : (p cut at : ℕ) (rows : List Row) (d : List ℕ) → inFull addingOf p cut (closingStores at rows d) ≡ []
 unfolding inFull closingStores storeBytes addingOf
 closing-addings p cut at rows d = simp cond-same
 
-closing-standing : (p cut at : ℕ) (rows : List IndexRow) (d : List ℕ) → standing p cut (closingStores at rows d) ≡ 0
+closing-standing : (p cut at : ℕ) (rows : List Row) (d : List ℕ) → standing p cut (closingStores at rows d) ≡ 0
 unfolding standing closingStores
 closing-standing p cut at rows d = refl
 
-closing-dictionaries : (p cut at : ℕ) (rows : List IndexRow) (d : List ℕ)
+closing-dictionaries : (p cut at : ℕ) (rows : List Row) (d : List ℕ)
     → inFull dictionaryOf p cut (closingStores at rows d) ≡ cond (leb (p + 64 + (4 + length d)) cut) (d ∷ []) []
 unfolding inFull closingStores storeBytes dictionaryOf
 closing-dictionaries p cut at rows d = simp (cond-same, length-header, length-dictionary, append-nil)
@@ -181,7 +181,7 @@ endOf bs = 64 + length (blocksBytes 0 bs)
 
 -- with the last header, and the blocks
 abbrev pub closedFile : List Block → List ℕ → List ℕ
-closedFile bs r = headerBytes (closedHeader (endOf bs) (rowsFrom 64 bs)) ++ (blocksBytes 0 bs ++ r)
+closedFile bs r = headerBytes (closedHeader (endOf bs) (tableOf bs)) ++ (blocksBytes 0 bs ++ r)
 
 -- before the second header is whole
 pub record Before (ss : List Store) (cut : ℕ) (bs : List Block) : Type 0 where
@@ -193,7 +193,7 @@ pub record Before (ss : List Store) (cut : ℕ) (bs : List Block) : Type 0 where
 
 -- from then on, with j bytes of what stands behind the blocks
 pub record Behind (ss : List Store) (cut : ℕ) (bs : List Block) (d : List ℕ) (j : ℕ) : Type 0 where
-  pub disk-is : disk cut [] ss ≡ closedFile bs (take j (tailBytes (endOf bs + 4 + length d) (rowsFrom 64 bs) d))
+  pub disk-is : disk cut [] ss ≡ closedFile bs (take j (tailBytes (endOf bs + 4 + length d) (tableOf bs) d))
   pub blocks : blocksIn 0 cut ss ≡ bs
   pub stands : standing 0 cut ss ≡ 0
   pub dictionaries : dictionariesInFull cut ss ≡ cond (leb (4 + length d) j) (d ∷ []) []
@@ -252,15 +252,15 @@ module _ (cut : ℕ) (xs : List Adding) (h : 64 ≤ cut) where
     closed-before l =
         let X = blocksBytes 0 bs in
         let D = endOf bs in
-        let ss = closingStores D (rowsFrom 64 bs) d in
+        let ss = closingStores D (tableOf bs) d in
         let Y = take (cut - 64) X in
         let m : length (first ++ Y) ≡ 64 + length Y = omega (arith, length-append first Y, length-header emptyHeader) in
         record {
           reached = h;
-          disk-is = disk-opened cut xs ss h ∙ disk-cut (cut - 64 - length X) D (first ++ Y) (rowsFrom 64 bs) d (omega arith) (omega arith);
-          blocks = in-blocks cut xs ss (closing-addings D cut D (rowsFrom 64 bs) d);
-          stands = in-standing cut xs ss (λ q. closing-standing q cut D (rowsFrom 64 bs) d);
-          dictionaries = in-dictionaries cut xs ss ∙ closing-dictionaries D cut D (rowsFrom 64 bs) d
+          disk-is = disk-opened cut xs ss h ∙ disk-cut (cut - 64 - length X) D (first ++ Y) (tableOf bs) d (omega arith) (omega arith);
+          blocks = in-blocks cut xs ss (closing-addings D cut D (tableOf bs) d);
+          stands = in-standing cut xs ss (λ q. closing-standing q cut D (tableOf bs) d);
+          dictionaries = in-dictionaries cut xs ss ∙ closing-dictionaries D cut D (tableOf bs) d
               ∙ ap (λ (t : Bool). cond t (d ∷ []) []) (lt-leb (D + 64 + (4 + length d)) cut (omega arith));
         }
 
@@ -269,7 +269,7 @@ module _ (cut : ℕ) (xs : List Adding) (h : 64 ≤ cut) where
     closed-behind l =
         let X = blocksBytes 0 bs in
         let D = endOf bs in
-        let rows = rowsFrom 64 bs in
+        let rows = tableOf bs in
         let ss = closingStores D rows d in
         let k = cut - 64 - length X in
         let e : take (cut - 64) X ≡ X = take-all (cut - 64) X (omega arith) in
@@ -290,7 +290,7 @@ unfolding closedStores
 view xs opened cut h = before (open-before cut xs (reached-by cut xs [] (rw (append-nil (openStores xs)) h)))
 view xs (closed d some fits) cut h =
     let bs = map blockFor xs in
-    let c : 64 ≤ cut = reached-by cut xs (closingStores (endOf bs) (rowsFrom 64 bs) d) h in
+    let c : 64 ≤ cut = reached-by cut xs (closingStores (endOf bs) (tableOf bs) d) h in
     elim (decLe (endOf bs + 64) cut) [
       | yes l ↦ behind d (cut - (endOf bs + 64)) refl some fits (closed-behind cut xs c d l)
       | no l ↦ before (closed-before cut xs c d (omega arith))
@@ -320,37 +320,37 @@ open-bytes xs = rw (stores-blocks 0 xs)
 
 closed-bytes : (xs : List Adding) (d : List ℕ) → (
     let bs = map blockFor xs in
-    storesBytes (closedStores xs d) ≡ storesBytes (openStores xs) ++ closingBytes (endOf bs) (rowsFrom 64 bs) d)
+    storesBytes (closedStores xs d) ≡ storesBytes (openStores xs) ++ closingBytes (endOf bs) (tableOf bs) d)
 unfolding closedStores
 closed-bytes xs d =
     let bs = map blockFor xs in
     let D = endOf bs in
-    stores-append (openStores xs) (closingStores D (rowsFrom 64 bs) d)
-    ∙ ap (λ (x : List ℕ). storesBytes (openStores xs) ++ x) (closing-bytes D (rowsFrom 64 bs) d)
+    stores-append (openStores xs) (closingStores D (tableOf bs) d)
+    ∙ ap (λ (x : List ℕ). storesBytes (openStores xs) ++ x) (closing-bytes D (tableOf bs) d)
 
 total-closed : (xs : List Adding) (d : List ℕ) → (
     let bs = map blockFor xs in
-    total (closedStores xs d) ≡ endOf bs + 64 + length (tailBytes (endOf bs + 4 + length d) (rowsFrom 64 bs) d))
+    total (closedStores xs d) ≡ endOf bs + 64 + length (tailBytes (endOf bs + 4 + length d) (tableOf bs) d))
 total-closed xs d =
     let bs = map blockFor xs in
     let X = blocksBytes 0 bs in
     let D = endOf bs in
-    let C = closingBytes D (rowsFrom 64 bs) d in
+    let C = closingBytes D (tableOf bs) d in
     let a : length (storesBytes (closedStores xs d)) ≡ length (storesBytes (openStores xs) ++ C) = ap length (closed-bytes xs d) in
     let b : length (storesBytes (openStores xs)) ≡ length (first ++ X) = ap length (open-bytes xs) in
-    let c : length C ≡ 64 + length (tailBytes (D + 4 + length d) (rowsFrom 64 bs) d) =
-    omega (arith, length-closing D (rowsFrom 64 bs) d, length-tail (D + 4 + length d) (rowsFrom 64 bs) d) in
+    let c : length C ≡ 64 + length (tailBytes (D + 4 + length d) (tableOf bs) d) =
+    omega (arith, length-closing D (tableOf bs) d, length-tail (D + 4 + length d) (tableOf bs) d) in
     omega (arith, total-stores (closedStores xs d), length-append (storesBytes (openStores xs)) C, length-append first X, length-header emptyHeader)
 
 pub finished-closed : (xs : List Adding) (d : List ℕ) → (
-    let bs = map blockFor xs in finished (closedStores xs d) ≡ finishedBytes (rowsFrom 64 bs) (blocksBytes 0 bs) d)
+    let bs = map blockFor xs in finished (closedStores xs d) ≡ finishedBytes (tableOf bs) (blocksBytes 0 bs) d)
 unfolding finishedBytes
 finished-closed xs d =
     let bs = map blockFor xs in
     let X = blocksBytes 0 bs in
     let D = endOf bs in
-    let T = tailBytes (D + 4 + length d) (rowsFrom 64 bs) d in
+    let T = tailBytes (D + 4 + length d) (tableOf bs) d in
     let c = total (closedStores xs d) in
     let e : c ≡ D + 64 + length T = total-closed xs d in
     closed-behind c xs (omega arith) d (omega arith) .disk-is
-    ∙ ap (λ (x : List ℕ). headerBytes (closedHeader D (rowsFrom 64 bs)) ++ (X ++ x)) (take-all (c - (D + 64)) T (omega arith))
+    ∙ ap (λ (x : List ℕ). headerBytes (closedHeader D (tableOf bs)) ++ (X ++ x)) (take-all (c - (D + 64)) T (omega arith))

@@ -16,24 +16,26 @@ use Rattle.wire.proofs.Splices.{length-splice}
 use Rattle.crc32.specs.Crc.{crc32}
 use Rattle.parts.specs.declared.IndexRow.{IndexRow}
 use Rattle.parts.specs.declared.Footer.{Footer}
-use Rattle.parts.specs.Parts.{headerOf, rowOf, rowBytes, RowFits, emptyRow, indexMark, footerFields, footerBytes, FooterFits}
+use Rattle.parts.specs.Parts.{headerOf, indexRowOf, indexRowBytes, indexMark, footerFields, footerBytes, FooterFits}
 use Rattle.parts.specs.Rules.{headerRules}
 use Rattle.parts.proofs.Fields.{widths, spelled-at}
-use Rattle.parts.proofs.Parts.{length-row, row-back}
+use Rattle.parts.proofs.Parts.{length-index-row, index-row-back}
 use Rattle.parts.proofs.HeaderRules.{written-sound}
-use Rattle.rows.specs.Rows.{stride, AllFit, tableBytes, firstTime, lastTime}
+use Rattle.rows.specs.declared.Row.{Row}
+use Rattle.rows.specs.Rows.{stride, fileRow, RowFits, emptyRow, AllFit, tableBytes, roomRules, filed, numbered, firstTime, lastTime}
 use Rattle.rows.proofs.Rows.{rows-at, length-table, rows-put}
-use Rattle.blocks.specs.Blocks.{headAt, storedAt, blockRules, rowAt, endAlong}
+use Rattle.rows.proofs.Fits.{room-there}
+use Rattle.blocks.specs.Blocks.{headAt, storedAt, blockRules, blockRow, endAlong}
 use Rattle.layout.specs.Layout.{Block, headOf, blockBytes, blockSize, blocksBytes, rowFor, rowsFrom, endFrom, dictionaryBytes, rowsBytes, indexBytes}
-use Rattle.layout.specs.Layout.{tailBytes, closedHeader, finishedBytes}
+use Rattle.layout.specs.Layout.{tailBytes, closedHeader, finishedBytes, tableOf}
 use Rattle.layout.proofs.Parts.{length-block, length-dictionary, length-index, length-tail}
-use Rattle.layout.proofs.Along.{length-rows-from, end-from}
+use Rattle.layout.proofs.Along.{length-rows-from, end-from, rows-numbered}
 use Rattle.layout.proofs.Back.{dictionary-size, index-mark, index-count}
 use Rattle.frame.specs.declared.Frame.{Frame}
 use Rattle.frame.specs.Frame.{sizeAt, dictionaryRules, frameOf, placeRules, lengthRules, indexRules, footerRules, frameRules, indexRows}
 use Rattle.frame.proofs.Rules.{dictionary-sound, places-sound, length-agrees, index-sound, footer-sound}
-use Rattle.reader.specs.Open.{rowRules, blocksRules, rowsIn, openRules, roomRules, callRules, openOf, openOut}
-use Rattle.reader.proofs.Rules.{row-sound, after-sound, room-there}
+use Rattle.reader.specs.Open.{rowRules, blocksRules, rowsIn, openRules, callRules, openOf, openOut}
+use Rattle.reader.proofs.Rules.{row-sound, after-sound}
 use Rattle.access.specs.Access.{rowIn, storedOf, dictionaryIn}
 use Rattle.access.proofs.Rules.{row-there}
 use Rattle.disk.proofs.Blocks.{Good, Valid, lastEnd, first-block, rows-fit}
@@ -61,23 +63,24 @@ unfolding Valid endFrom
 end-within at earliest [] v = omega arith
 end-within at earliest (b ∷ bs) v = omega (arith, end-within (at + blockSize b) (b .end) bs (v .1), v .0 .stored-fits)
 
-first-row : (r : IndexRow) (rs : List IndexRow) (t : List ℕ) → rowsBytes (r ∷ rs) ++ t ≡ rowBytes r ++ (rowsBytes rs ++ t)
+first-row : (r : Row) (rs : List Row) (t : List ℕ) → rowsBytes (r ∷ rs) ++ t ≡ indexRowBytes (fileRow r) ++ (rowsBytes rs ++ t)
 unfolding rowsBytes
-first-row r rs t = append-assoc (rowBytes r) (rowsBytes rs) t
+first-row r rs t = append-assoc (indexRowBytes (fileRow r)) (rowsBytes rs) t
 
 -- a row read back, and what stands behind it
-module _ (f : List ℕ) (at : ℕ) (r : IndexRow) (rs : List IndexRow) (t : List ℕ) (here : drop at f ≡ rowsBytes (r ∷ rs) ++ t) where
-  row-read : RowFits r → rowOf (drop at f) ≡ r
-  row-read fits = ap rowOf (here ∙ first-row r rs t) ∙ row-back r fits (rowsBytes rs ++ t)
+module _ (f : List ℕ) (at : ℕ) (r : Row) (rs : List Row) (t : List ℕ) (here : drop at f ≡ rowsBytes (r ∷ rs) ++ t) where
+  row-read : RowFits r → indexRowOf (drop at f) ≡ fileRow r
+  row-read fits = ap indexRowOf (here ∙ first-row r rs t) ∙ index-row-back (fileRow r) (fits .filed) (rowsBytes rs ++ t)
 
-  row-behind : drop (at + 28) f ≡ rowsBytes rs ++ t
-  row-behind = behind f (rowBytes r) (rowsBytes rs ++ t) at 28 (here ∙ first-row r rs t) (length-row r)
+  row-after : drop (at + 28) f ≡ rowsBytes rs ++ t
+  row-after = behind f (indexRowBytes (fileRow r)) (rowsBytes rs ++ t) at 28 (here ∙ first-row r rs t) (length-index-row (fileRow r))
 
-index-read : (rows : List IndexRow) (f : List ℕ) (at : ℕ) (t : List ℕ) → drop at f ≡ rowsBytes rows ++ t → AllFit rows → indexRows (length rows) f at ≡ rows
-unfolding indexRows
+index-read : (rows : List Row) (f : List ℕ) (at : ℕ) (t : List ℕ) → drop at f ≡ rowsBytes rows ++ t → AllFit rows
+    → indexRows (length rows) f at ≡ filed rows
+unfolding indexRows filed
 index-read [] f at t here fit = refl
 index-read (r ∷ rs) f at t here fit =
-    rw (row-read f at r rs t here (fit .0), index-read rs f (at + 28) t (row-behind f at r rs t here) (fit .1))
+    rw (row-read f at r rs t here (fit .0), index-read rs f (at + 28) t (row-after f at r rs t here) (fit .1))
 
 -- ---- the footer
 
@@ -92,22 +95,22 @@ footer-read x fits f at here =
 
 -- ---- each block, and its row
 
-same-row : (row block : IndexRow) (at : ℕ) → row ≡ block → firstBroken (rowRules row block at) ≡ sound
+same-row : (row : IndexRow) (block : Row) (at : ℕ) → row ≡ fileRow block → firstBroken (rowRules row block at) ≡ sound
 same-row row block at e =
     row-sound row block at (ap (λ (r : IndexRow). r .start .0) e) (ap (λ (r : IndexRow). r .end .0) e) (ap (λ (r : IndexRow). r .offset) e)
     (ap (λ (r : IndexRow). r .stored) e)
 
 -- the rules of a block that is read back lead to those of the blocks behind it
 module _ (f : List ℕ) (limit at n earliest row : ℕ) (b : Block) (t : List ℕ) (here : drop at f ≡ blockBytes n b ++ t) (small : n < 256 ^ 4)
-    (g : Good earliest b) (within : at + blockSize b ≤ limit) (same : rowOf (drop row f) ≡ rowFor at b) where
+    (g : Good earliest b) (within : at + blockSize b ≤ limit) (same : indexRowOf (drop row f) ≡ fileRow (rowFor n at b)) where
   block-passes : (k : ℕ)
       → firstBroken (blocksRules crc32 (suc k) f limit at n earliest row)
       ≡ firstBroken (blocksRules crc32 k f limit (at + blockSize b) (suc n) (b .end) (row + 28))
   unfolding blocksRules headOf
   block-passes k =
       then-sound (blockRules crc32 f limit at n earliest) _ (scans.sound-back f at n earliest b t here small g limit within)
-      ∙ then-sound (rowRules (rowOf (drop row f)) (rowAt f at) row) _
-      (same-row (rowOf (drop row f)) (rowAt f at) row (same ∙ sym (scans.row-back f at n earliest b t here small g)))
+      ∙ then-sound (rowRules (indexRowOf (drop row f)) (blockRow f at) row) _
+      (same-row (indexRowOf (drop row f)) (blockRow f at) row (same ∙ ap fileRow (sym (scans.row-back f at n earliest b t here small g))))
       ∙ rw (scans.end-back f at n earliest b t here small g, scans.head-back f at n earliest b t here small g)
 
 no-blocks : (f : List ℕ) (limit at n earliest row : ℕ) → firstBroken (blocksRules crc32 0 f limit at n earliest row) ≡ sound
@@ -115,7 +118,8 @@ unfolding blocksRules
 no-blocks f limit at n earliest row = first-none
 
 blocks-pass : (f : List ℕ) (limit : ℕ) (bs : List Block) (at n earliest row : ℕ) (t u : List ℕ) → drop at f ≡ blocksBytes n bs ++ t
-    → drop row f ≡ rowsBytes (rowsFrom at bs) ++ u → endFrom at bs ≤ limit → Valid earliest bs → AllFit (rowsFrom at bs) → n + length bs ≤ 256 ^ 4
+    → drop row f ≡ rowsBytes (rowsFrom n at bs) ++ u → endFrom at bs ≤ limit → Valid earliest bs → AllFit (rowsFrom n at bs)
+    → n + length bs ≤ 256 ^ 4
     → firstBroken (blocksRules crc32 (length bs) f limit at n earliest row) ≡ sound
 unfolding Valid rowsFrom endFrom
 blocks-pass f limit [] at n earliest row t u here there h v fit few = no-blocks f limit at n earliest row
@@ -123,12 +127,12 @@ blocks-pass f limit (b ∷ bs) at n earliest row t u here there h v fit few =
     let next = at + blockSize b in
     let block : drop at f ≡ blockBytes n b ++ (blocksBytes (suc n) bs ++ t) = here ∙ first-block n b bs t in
     let rest = blocksBytes (suc n) bs ++ t in
-    let rows = rowsFrom next bs in
+    let rows = rowsFrom (suc n) next bs in
     let small : n < 256 ^ 4 = omega arith in
     let within : next ≤ limit = omega (arith, end-from next (suc n) bs) in
-    block-passes f limit at n earliest row b rest block small (v .0) within (row-read f row (rowFor at b) rows u there (fit .0)) (length bs)
+    block-passes f limit at n earliest row b rest block small (v .0) within (row-read f row (rowFor n at b) rows u there (fit .0)) (length bs)
     ∙ blocks-pass f limit bs next (suc n) (b .end) (row + 28) t u (scans.drop-back f at n earliest b rest block small (v .0))
-    (row-behind f row (rowFor at b) rows u there) h (v .1) (fit .1) (omega arith)
+    (row-after f row (rowFor n at b) rows u there) h (v .1) (fit .1) (omega arith)
 
 -- the block behind others
 block-at : (f : List ℕ) (before : List Block) (b : Block) (after : List Block) (at n : ℕ) (t : List ℕ) → drop at f ≡ blocksBytes n (before ++ (b ∷ after)) ++ t
@@ -147,16 +151,18 @@ unfolding Valid lastEnd
 good-at earliest [] b after v = v .0
 good-at earliest (c ∷ before) b after v = good-at (c .end) before b after (v .1)
 
-row-in : (at : ℕ) (before : List Block) (b : Block) (after : List Block)
-    → getD (rowsFrom at (before ++ (b ∷ after))) (length before) emptyRow ≡ rowFor (endFrom at before) b
+row-in : (n at : ℕ) (before : List Block) (b : Block) (after : List Block)
+    → getD (rowsFrom n at (before ++ (b ∷ after))) (length before) emptyRow ≡ rowFor (n + length before) (endFrom at before) b
 unfolding rowsFrom endFrom
-row-in at [] b after = refl
-row-in at (c ∷ before) b after = row-in (at + blockSize c) before b after
+row-in n at [] b after = rw add-zero
+row-in n at (c ∷ before) b after =
+    let e : n + suc (length before) ≡ suc n + length before = omega arith in
+    rw e (row-in (suc n) (at + blockSize c) before b after)
 
 -- the stored bytes that its row leads to
 stored-there : (f : List ℕ) (at n earliest : ℕ) (b : Block) (t : List ℕ) → drop at f ≡ blockBytes n b ++ t → n < 256 ^ 4 → Good earliest b
-    → storedOf f (rowFor at b) ≡ b .stored
-unfolding storedOf storedAt rowAt
+    → storedOf f (rowFor n at b) ≡ b .stored
+unfolding storedOf storedAt blockRow
 stored-there f at n earliest b t here small g =
     ap (storedOf f) (sym (scans.row-back f at n earliest b t here small g)) ∙ scans.stored-back f at n earliest b t here small g
 
@@ -176,14 +182,14 @@ end-found f (b ∷ bs) at n earliest t here v few =
 
 -- the file of blocks and a stored dictionary
 abbrev pub finishedFile : List Block → List ℕ → List ℕ
-finishedFile bs d = finishedBytes (rowsFrom 64 bs) (blocksBytes 0 bs) d
+finishedFile bs d = finishedBytes (tableOf bs) (blocksBytes 0 bs) d
 
 -- where its index stands, and what stands behind its blocks
 abbrev pub indexOf : List Block → List ℕ → ℕ
 indexOf bs d = endOf bs + 4 + length d
 
 abbrev tailOf : List Block → List ℕ → List ℕ
-tailOf bs d = tailBytes (indexOf bs d) (rowsFrom 64 bs) d
+tailOf bs d = tailBytes (indexOf bs d) (tableOf bs) d
 
 abbrev footerOf : List Block → List ℕ → List ℕ
 footerOf bs d = footerBytes (record { index = indexOf bs d })
@@ -196,14 +202,14 @@ finishedFrame bs d =
       stored = length d;
       index = indexOf bs d;
       blocks = length bs;
-      first = record { 0 = firstTime (rowsFrom 64 bs) };
-      last = record { 0 = lastTime (rowsFrom 64 bs) };
+      first = record { 0 = firstTime (tableOf bs) };
+      last = record { 0 = lastTime (tableOf bs) };
     }
 
 -- how its parts lie
 record Laid (bs : List Block) (d f : List ℕ) : Type 0 where
   header-sound : firstBroken (headerRules f) ≡ sound
-  header : headerOf f ≡ closedHeader (endOf bs) (rowsFrom 64 bs)
+  header : headerOf f ≡ closedHeader (endOf bs) (tableOf bs)
   length-is : length f ≡ endOf bs + (4 + length d + (16 + 28 * length bs) + 24)
   body : drop 64 f ≡ blocksBytes 0 bs ++ tailOf bs d
   tail : drop (endOf bs) f ≡ tailOf bs d
@@ -213,9 +219,9 @@ module _ (bs : List Block) (v : Valid 0 bs) (few : length bs ≤ 4096) (d : List
   closed-laid =
       let r = tailOf bs d in
       record {
-        header-sound = written-sound (closedHeader (endOf bs) (rowsFrom 64 bs)) (blocksBytes 0 bs ++ r);
+        header-sound = written-sound (closedHeader (endOf bs) (tableOf bs)) (blocksBytes 0 bs ++ r);
         header = closed-header bs v few r;
-        length-is = omega (arith, length-closed bs v few r, length-tail (indexOf bs d) (rowsFrom 64 bs) d, length-rows-from 64 bs);
+        length-is = omega (arith, length-closed bs v few r, length-tail (indexOf bs d) (tableOf bs) d, length-rows-from 0 64 bs);
         body = behind-header bs v few r;
         tail = behind-blocks bs v few r;
       }
@@ -226,26 +232,26 @@ module _ (bs : List Block) (v : Valid 0 bs) (few : length bs ≤ 4096) (d : List
 
 -- the places behind the blocks, and the frame
 module _ (bs : List Block) (d : List ℕ) (f : List ℕ) (l : Laid bs d f) where
-  here-dictionary : drop (endOf bs) f ≡ dictionaryBytes d ++ (indexBytes (rowsFrom 64 bs) ++ footerOf bs d)
+  here-dictionary : drop (endOf bs) f ≡ dictionaryBytes d ++ (indexBytes (tableOf bs) ++ footerOf bs d)
   unfolding tailBytes
   here-dictionary = l .tail
 
-  here-index : drop (indexOf bs d) f ≡ indexBytes (rowsFrom 64 bs) ++ footerOf bs d
+  here-index : drop (indexOf bs d) f ≡ indexBytes (tableOf bs) ++ footerOf bs d
   here-index =
       let e : indexOf bs d ≡ endOf bs + (4 + length d) = omega arith in
       ap (λ (k : ℕ). drop k f) e
-      ∙ behind f (dictionaryBytes d) (indexBytes (rowsFrom 64 bs) ++ footerOf bs d) (endOf bs) (4 + length d) here-dictionary (length-dictionary d)
+      ∙ behind f (dictionaryBytes d) (indexBytes (tableOf bs) ++ footerOf bs d) (endOf bs) (4 + length d) here-dictionary (length-dictionary d)
 
   here-footer : drop (length f - 24) f ≡ footerOf bs d
   here-footer =
-      let n = 16 + 28 * length (rowsFrom 64 bs) in
-      let e : length f - 24 ≡ indexOf bs d + n = omega (arith, l .length-is, length-rows-from 64 bs) in
-      ap (λ (k : ℕ). drop k f) e ∙ behind f (indexBytes (rowsFrom 64 bs)) (footerOf bs d) (indexOf bs d) n here-index (length-index (rowsFrom 64 bs))
+      let n = 16 + 28 * length (tableOf bs) in
+      let e : length f - 24 ≡ indexOf bs d + n = omega (arith, l .length-is, length-rows-from 0 64 bs) in
+      ap (λ (k : ℕ). drop k f) e ∙ behind f (indexBytes (tableOf bs)) (footerOf bs d) (indexOf bs d) n here-index (length-index (tableOf bs))
 
-  here-rows : drop (indexOf bs d + 16) f ≡ rowsBytes (rowsFrom 64 bs) ++ footerOf bs d
+  here-rows : drop (indexOf bs d + 16) f ≡ rowsBytes (tableOf bs) ++ footerOf bs d
   unfolding indexBytes
   here-rows =
-      let rows = rowsFrom 64 bs in
+      let rows = tableOf bs in
       let mark = le 8 indexMark in
       let count = le 8 (length rows) in
       let e : indexOf bs d + 16 ≡ indexOf bs d + 8 + 8 = omega arith in
@@ -258,16 +264,16 @@ module _ (bs : List Block) (d : List ℕ) (f : List ℕ) (l : Laid bs d f) where
 
   module _ (fits : length d < 256 ^ 4) where
     size-laid : sizeAt f (endOf bs) ≡ length d
-    size-laid = number-here 4 f _ (endOf bs) here-dictionary ∙ dictionary-size d (indexBytes (rowsFrom 64 bs) ++ footerOf bs d) fits
+    size-laid = number-here 4 f _ (endOf bs) here-dictionary ∙ dictionary-size d (indexBytes (tableOf bs) ++ footerOf bs d) fits
 
     dictionary-laid : 1 ≤ length d → dictionaryIn f (finishedFrame bs d) ≡ d
     unfolding dictionaryIn
     dictionary-laid some =
-        rw size-laid at (dictionary-part d some fits f (endOf bs) (omega arith) (indexBytes (rowsFrom 64 bs) ++ footerOf bs d) here-dictionary)
+        rw size-laid at (dictionary-part d some fits f (endOf bs) (omega arith) (indexBytes (tableOf bs) ++ footerOf bs d) here-dictionary)
 
     frame-laid : frameOf f ≡ finishedFrame bs d
     unfolding frameOf closedHeader
-    frame-laid = rw (l .header, size-laid, length-rows-from 64 bs)
+    frame-laid = rw (l .header, size-laid, length-rows-from 0 64 bs)
 
 -- no rule is broken
 module _ (bs : List Block) (v : Valid 0 bs) (few : length bs ≤ 4096) (d : List ℕ) (some : 1 ≤ length d) (fits : length d < 256 ^ 4) (f : List ℕ) (l : Laid bs d f) where
@@ -278,8 +284,8 @@ module _ (bs : List Block) (v : Valid 0 bs) (few : length bs ≤ 4096) (d : List
 
   index-laid : firstBroken (indexRules f (indexOf bs d) (length bs)) ≡ sound
   index-laid =
-      let rows = rowsFrom 64 bs in
-      let n = length-rows-from 64 bs in
+      let rows = tableOf bs in
+      let n = length-rows-from 0 64 bs in
       index-sound f (indexOf bs d) (length bs) (number-here 8 f _ (indexOf bs d) (here-index bs d f l) ∙ index-mark rows (footerOf bs d))
       (number-at 8 f _ (indexOf bs d) 8 (here-index bs d f l) ∙ index-count rows (footerOf bs d) (omega arith) ∙ n)
 
@@ -297,15 +303,16 @@ module _ (bs : List Block) (v : Valid 0 bs) (few : length bs ≤ 4096) (d : List
       ∙ then-sound (indexRules f i (length bs)) _ index-laid
       ∙ footer-laid)
 
-  fit-laid : AllFit (rowsFrom 64 bs)
-  fit-laid = rows-fit 64 0 bs v (omega arith)
+  fit-laid : AllFit (tableOf bs)
+  fit-laid = rows-fit 0 64 0 bs v (omega arith) (omega arith)
 
-  rows-laid : rowsIn f ≡ rowsFrom 64 bs
+  rows-laid : rowsIn f ≡ tableOf bs
   unfolding rowsIn
   rows-laid =
-      let e : indexRows (length (rowsFrom 64 bs)) f (indexOf bs d + 16) ≡ rowsFrom 64 bs =
-      index-read (rowsFrom 64 bs) f (indexOf bs d + 16) (footerOf bs d) (here-rows bs d f l) fit-laid in
-      rw (frame-laid bs d f l fits) (rw (length-rows-from 64 bs) at e)
+      let e : indexRows (length (tableOf bs)) f (indexOf bs d + 16) ≡ filed (tableOf bs) =
+      index-read (tableOf bs) f (indexOf bs d + 16) (footerOf bs d) (here-rows bs d f l) fit-laid in
+      let g : indexRows (length bs) f (indexOf bs d + 16) ≡ filed (tableOf bs) = rw (length-rows-from 0 64 bs) at e in
+      rw (frame-laid bs d f l fits) (ap numbered g ∙ rows-numbered 0 64 bs)
 
   end-laid : endAlong (length bs) f 64 ≡ endOf bs
   end-laid = end-found f bs 64 0 0 (tailOf bs d) (l .body) v (omega arith) ∙ end-from 64 0 bs
@@ -319,16 +326,16 @@ module _ (bs : List Block) (v : Valid 0 bs) (few : length bs ≤ 4096) (d : List
       (then-sound (frameRules f) _ frame-passes
       ∙ then-sound (blocksRules crc32 (length bs) f (endOf bs) 64 0 0 (i + 16)) _
       (blocks-pass f (endOf bs) bs 64 0 0 (i + 16) (tailOf bs d) (footerOf bs d) (l .body) (here-rows bs d f l) within v fit-laid (omega arith))
-      ∙ after-sound (finishedFrame bs d) (endAlong (length bs) f 64) (firstTime (rowsFrom 64 bs)) (lastTime (rowsFrom 64 bs)) end-laid refl refl)
+      ∙ after-sound (finishedFrame bs d) (endAlong (length bs) f 64) (firstTime (tableOf bs)) (lastTime (tableOf bs)) end-laid refl refl)
 
 -- ---- what the reader finds
 
 -- what opening a file with a lent table gives, and the table afterwards
-pub record Opens (f table : List ℕ) (r : Frame) (rows : List IndexRow) : Type 0 where
+pub record Opens (f table : List ℕ) (r : Frame) (rows : List Row) : Type 0 where
   pub gives : openOf f (length table) ≡ given r
   pub leaves : openOut f table ≡ splice table 0 (tableBytes rows)
 
-room-opens : (f table : List ℕ) (r : Frame) (rows : List IndexRow) → firstBroken (openRules crc32 f) ≡ sound → frameOf f ≡ r → rowsIn f ≡ rows
+room-opens : (f table : List ℕ) (r : Frame) (rows : List Row) → firstBroken (openRules crc32 f) ≡ sound → frameOf f ≡ r → rowsIn f ≡ rows
     → length (tableBytes rows) ≤ length table → Opens f table r rows
 unfolding callRules openOf openOut
 room-opens f table r rows e a b h =
@@ -338,14 +345,14 @@ room-opens f table r rows e a b h =
     record { gives = rw (b, calls, a); leaves = rw (b, calls) }
 
 -- a row of those that are put in front of a table
-row-tabled : (rows : List IndexRow) (table : List ℕ) (n i : ℕ) → length rows ≡ n → i < n → length (tableBytes rows) ≤ length table → AllFit rows
+row-tabled : (rows : List Row) (table : List ℕ) (n i : ℕ) → length rows ≡ n → i < n → length (tableBytes rows) ≤ length table → AllFit rows
     → rowIn (splice table 0 (tableBytes rows)) n i ≡ given (getD rows i emptyRow)
 row-tabled rows table n i e h room fit =
     let m : length rows * stride ≤ length table = omega (arith, length-table rows) in
     let after = splice table 0 (tableBytes rows) in
     let r = rows-at (length rows) after i (omega arith) in
     let l : length after ≡ length table = length-splice table 0 (tableBytes rows) in
-    sym (row-there after n i h (omega arith)) ∙ ap given (sym r ∙ ap (λ (rs : List IndexRow). getD rs i emptyRow) (rows-put rows table m fit))
+    sym (row-there after n i h (omega arith)) ∙ ap given (sym r ∙ ap (λ (rs : List Row). getD rs i emptyRow) (rows-put rows table m fit))
 
 module _ (bs : List Block) (v : Valid 0 bs) (few : length bs ≤ 4096) (d : List ℕ) (some : 1 ≤ length d) (fits : length d < 256 ^ 4) where
   pub open-finished : firstBroken (openRules crc32 (finishedFile bs d)) ≡ sound
@@ -354,16 +361,16 @@ module _ (bs : List Block) (v : Valid 0 bs) (few : length bs ≤ 4096) (d : List
   pub frame-finished : frameOf (finishedFile bs d) ≡ finishedFrame bs d
   frame-finished = frame-laid bs d (finishedFile bs d) (laid bs v few d) fits
 
-  pub rows-finished : rowsIn (finishedFile bs d) ≡ rowsFrom 64 bs
+  pub rows-finished : rowsIn (finishedFile bs d) ≡ tableOf bs
   rows-finished = rows-laid bs v few d some fits (finishedFile bs d) (laid bs v few d)
 
   pub dictionary-finished : dictionaryIn (finishedFile bs d) (frameOf (finishedFile bs d)) ≡ d
   dictionary-finished = rw frame-finished (dictionary-laid bs d (finishedFile bs d) (laid bs v few d) fits some)
 
   -- with a table that has room for the rows
-  module _ (table : List ℕ) (room : length (tableBytes (rowsFrom 64 bs)) ≤ length table) where
-    pub opens : Opens (finishedFile bs d) table (finishedFrame bs d) (rowsFrom 64 bs)
-    opens = room-opens (finishedFile bs d) table (finishedFrame bs d) (rowsFrom 64 bs) open-finished frame-finished rows-finished room
+  module _ (table : List ℕ) (room : length (tableBytes (tableOf bs)) ≤ length table) where
+    pub opens : Opens (finishedFile bs d) table (finishedFrame bs d) (tableOf bs)
+    opens = room-opens (finishedFile bs d) table (finishedFrame bs d) (tableOf bs) open-finished frame-finished rows-finished room
 
   -- each block
   module _ (before : List Block) (b : Block) (after : List Block) (split : bs ≡ before ++ (b ∷ after)) where
@@ -384,15 +391,15 @@ module _ (bs : List Block) (v : Valid 0 bs) (few : length bs ≤ 4096) (d : List
         scans.head-back (finishedFile bs d) (endFrom 64 before) (length before) (lastEnd 0 before) b (blocksBytes (suc (length before)) after ++ tailOf bs d)
         here-block small-number good-block
 
-    pub stored-finished : storedOf (finishedFile bs d) (rowFor (endFrom 64 before) b) ≡ b .stored
+    pub stored-finished : storedOf (finishedFile bs d) (rowFor (length before) (endFrom 64 before) b) ≡ b .stored
     stored-finished =
         stored-there (finishedFile bs d) (endFrom 64 before) (length before) (lastEnd 0 before) b (blocksBytes (suc (length before)) after ++ tailOf bs d)
         here-block small-number good-block
 
-    pub row-finished : (table : List ℕ) → length (tableBytes (rowsFrom 64 bs)) ≤ length table
-        → rowIn (openOut (finishedFile bs d) table) (length bs) (length before) ≡ given (rowFor (endFrom 64 before) b)
+    pub row-finished : (table : List ℕ) → length (tableBytes (tableOf bs)) ≤ length table
+        → rowIn (openOut (finishedFile bs d) table) (length bs) (length before) ≡ given (rowFor (length before) (endFrom 64 before) b)
     row-finished table room =
         let e = ap length split in
         let i : length before < length bs = omega (arith, length-append before (b ∷ after)) in
-        rw (opens table room .leaves) (row-tabled (rowsFrom 64 bs) table (length bs) (length before) (length-rows-from 64 bs) i room (rows-fit 64 0 bs v (omega arith)))
-        ∙ ap (λ (x : List Block). given (getD (rowsFrom 64 x) (length before) emptyRow)) split ∙ ap given (row-in 64 before b after)
+        rw (opens table room .leaves) (row-tabled (tableOf bs) table (length bs) (length before) (length-rows-from 0 64 bs) i room (rows-fit 0 64 0 bs v (omega arith) (omega arith)))
+        ∙ ap (λ (x : List Block). given (getD (tableOf x) (length before) emptyRow)) split ∙ ap given (rw zero-add at (row-in 0 64 before b after))

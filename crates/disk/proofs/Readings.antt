@@ -7,7 +7,7 @@ use Rattle.verdict.specs.Rules.{sound, given}
 use Rattle.verdict.proofs.Laws.{first-none, equal-holds}
 use Rattle.parts.specs.declared.BlockHeader.{BlockHeader}
 use Rattle.blocks.specs.Blocks.{headAt}
-use Rattle.layout.specs.Layout.{Block, headOf, blocksBytes, rowsFrom, endFrom, finishedBytes}
+use Rattle.layout.specs.Layout.{Block, headOf, blocksBytes, endFrom, finishedBytes, tableOf}
 use Rattle.entries.specs.Model.{Entry}
 use Rattle.entries.specs.Reading.{entriesOf, lastTime}
 use Rattle.entries.specs.Block.{blockRules, heldAgainst, blockVerdict}
@@ -39,6 +39,6 @@ module _ (a : Adding) (es : List Entry) (taken : readBy a ≡ given es) (names :
 module _ (bs : List Block) (v : Valid 0 bs) (few : length bs ≤ 4096) (d : List ℕ) (some : 1 ≤ length d) (fits : length d < 256 ^ 4) where
   pub block-finished : (a : Adding) (es : List Entry) → readBy a ≡ given es → (names : ℕ) → a .names ≤ names → (before after : List Block)
       → bs ≡ before ++ (blockFor a ∷ after)
-      → blockVerdict (a .plain) (headAt (finishedBytes (rowsFrom 64 bs) (blocksBytes 0 bs) d) (endFrom 64 before)) names ≡ sound
+      → blockVerdict (a .plain) (headAt (finishedBytes (tableOf bs) (blocksBytes 0 bs) d) (endFrom 64 before)) names ≡ sound
   block-finished a es taken names known before after split =
       rw (head-finished bs v few d some fits before (blockFor a) after split) (block-reads a es taken names known (length before))

@@ -19,12 +19,12 @@ use Rattle.parts.specs.Parts.{emptyHeader, headerBytes, headerOf, HeaderFits}
 use Rattle.parts.specs.Rules.{headerRules}
 use Rattle.parts.proofs.Parts.{length-header, header-back}
 use Rattle.parts.proofs.HeaderRules.{written-sound}
-use Rattle.rows.specs.Rows.{firstTime, lastFrom, tableBytes}
+use Rattle.rows.specs.Rows.{firstTime, lastFrom, tableBytes, roomRules}
 use Rattle.blocks.specs.Blocks.{scanOf}
-use Rattle.layout.specs.Layout.{Block, blocksBytes, blockSize, rowFor, rowsFrom, endFrom, dictionaryBytes, tailBytes, closedHeader}
+use Rattle.layout.specs.Layout.{Block, blocksBytes, blockSize, rowFor, rowsFrom, endFrom, dictionaryBytes, tailBytes, closedHeader, tableOf}
 use Rattle.layout.proofs.Parts.{length-block, length-dictionary}
 use Rattle.layout.proofs.Along.{length-rows-from, end-from}
-use Rattle.recovery.specs.Recovery.{limitOf, limitIn, offsetRules, recoverRules, Report, reported, reportOf, roomRules, callRules, recoverOf, recoverOut}
+use Rattle.recovery.specs.Recovery.{limitOf, limitIn, offsetRules, recoverRules, Report, reported, reportOf, callRules, recoverOf, recoverOut}
 use Rattle.frame.specs.Frame.{sizeAt, wholeDictionary}
 use Rattle.recovery.proofs.Rules.{limit-length, limit-offset, offset-sound}
 use Rattle.frame.proofs.Rules.{whole-none}
@@ -80,40 +80,40 @@ module _ (t : List ℕ) where
 
 -- ---- the header is the last one: the scan goes to D
 
-first-fits : (at : ℕ) (bs : List Block) → Valid 0 bs → firstTime (rowsFrom at bs) < 256 ^ 8
+first-fits : (n at : ℕ) (bs : List Block) → Valid 0 bs → firstTime (rowsFrom n at bs) < 256 ^ 8
 unfolding Valid rowsFrom firstTime rowFor
-first-fits at [] v = lit< tt
-first-fits at (b ∷ bs) v = v .0 .start-fits
+first-fits n at [] v = lit< tt
+first-fits n at (b ∷ bs) v = v .0 .start-fits
 
-last-fits : (at t earliest : ℕ) (bs : List Block) → Valid earliest bs → t < 256 ^ 8 → lastFrom t (rowsFrom at bs) < 256 ^ 8
+last-fits : (n at t earliest : ℕ) (bs : List Block) → Valid earliest bs → t < 256 ^ 8 → lastFrom t (rowsFrom n at bs) < 256 ^ 8
 unfolding Valid rowsFrom lastFrom rowFor
-last-fits at t earliest [] v h = h
-last-fits at t earliest (b ∷ bs) v h = last-fits (at + blockSize b) (b .end) (b .end) bs (v .1) (v .0 .end-fits)
+last-fits n at t earliest [] v h = h
+last-fits n at t earliest (b ∷ bs) v h = last-fits (suc n) (at + blockSize b) (b .end) (b .end) bs (v .1) (v .0 .end-fits)
 
 blocks-fit : (n earliest : ℕ) (bs : List Block) → Valid earliest bs → length (blocksBytes n bs) ≤ length bs * (36 + 256 ^ 4)
 unfolding blocksBytes Valid
 blocks-fit n earliest [] v = zero-le
 blocks-fit n earliest (b ∷ bs) v = rw (length-append, length-block) (omega (arith, blocks-fit (suc n) (b .end) bs (v .1), v .0 .stored-fits))
 
-closed-fits : (bs : List Block) → Valid 0 bs → length bs ≤ 4096 → HeaderFits (closedHeader (endOf bs) (rowsFrom 64 bs))
+closed-fits : (bs : List Block) → Valid 0 bs → length bs ≤ 4096 → HeaderFits (closedHeader (endOf bs) (tableOf bs))
 unfolding closedHeader
 closed-fits bs v few =
     record {
       dictionary = omega (arith, blocks-fit 0 0 bs v);
-      blocks = omega (arith, length-rows-from 64 bs);
-      first = first-fits 64 bs v;
-      last = last-fits 64 0 0 bs v (lit< tt);
+      blocks = omega (arith, length-rows-from 0 64 bs);
+      first = first-fits 0 64 bs v;
+      last = last-fits 0 64 0 0 bs v (lit< tt);
     }
 
 module _ (bs : List Block) (v : Valid 0 bs) (few : length bs ≤ 4096) (r : List ℕ) where
-  pub closed-header : headerOf (closedFile bs r) ≡ closedHeader (endOf bs) (rowsFrom 64 bs)
-  closed-header = header-back (closedHeader (endOf bs) (rowsFrom 64 bs)) (closed-fits bs v few) (blocksBytes 0 bs ++ r)
+  pub closed-header : headerOf (closedFile bs r) ≡ closedHeader (endOf bs) (tableOf bs)
+  closed-header = header-back (closedHeader (endOf bs) (tableOf bs)) (closed-fits bs v few) (blocksBytes 0 bs ++ r)
 
   pub closed-offset : headerOf (closedFile bs r) .dictionary ≡ endOf bs
   unfolding closedHeader
   closed-offset = ap (λ (h : Header). h .dictionary) closed-header
 
-  pub closed-count : headerOf (closedFile bs r) .blocks ≡ length (rowsFrom 64 bs)
+  pub closed-count : headerOf (closedFile bs r) .blocks ≡ length (tableOf bs)
   unfolding closedHeader
   closed-count = ap (λ (h : Header). h .blocks) closed-header
 
@@ -121,10 +121,10 @@ module _ (bs : List Block) (v : Valid 0 bs) (few : length bs ≤ 4096) (r : List
   closed-limit = ap (λ (d : ℕ). limitOf d (length (closedFile bs r))) closed-offset ∙ limit-offset (endOf bs) (length (closedFile bs r)) (λ e. omega arith)
 
   pub length-closed : length (closedFile bs r) ≡ endOf bs + length r
-  length-closed = omega (arith, length-file (closedHeader (endOf bs) (rowsFrom 64 bs)) (closed-fits bs v few) (blocksBytes 0 bs ++ r), length-append (blocksBytes 0 bs) r)
+  length-closed = omega (arith, length-file (closedHeader (endOf bs) (tableOf bs)) (closed-fits bs v few) (blocksBytes 0 bs ++ r), length-append (blocksBytes 0 bs) r)
 
   pub behind-header : drop 64 (closedFile bs r) ≡ blocksBytes 0 bs ++ r
-  behind-header = drop-at (headerBytes (closedHeader (endOf bs) (rowsFrom 64 bs))) (blocksBytes 0 bs ++ r) 64 (length-header (closedHeader (endOf bs) (rowsFrom 64 bs)))
+  behind-header = drop-at (headerBytes (closedHeader (endOf bs) (tableOf bs))) (blocksBytes 0 bs ++ r) 64 (length-header (closedHeader (endOf bs) (tableOf bs)))
 
   pub behind-blocks : drop (endOf bs) (closedFile bs r) ≡ r
   behind-blocks =
@@ -135,9 +135,9 @@ module _ (bs : List Block) (v : Valid 0 bs) (few : length bs ≤ 4096) (r : List
   closed-accepted =
       let e = closed-limit in
       let l = length-closed in
-      accepted (closedHeader (endOf bs) (rowsFrom 64 bs)) (closed-fits bs v few) (blocksBytes 0 bs ++ r) (omega arith) (omega arith)
+      accepted (closedHeader (endOf bs) (tableOf bs)) (closed-fits bs v few) (blocksBytes 0 bs ++ r) (omega arith) (omega arith)
 
-  pub closed-report : reportOf (closedFile bs r) ≡ record { rows = rowsFrom 64 bs; end = endOf bs; stop = sound; whole = wholeDictionary (closedFile bs r) (endOf bs) }
+  pub closed-report : reportOf (closedFile bs r) ≡ record { rows = tableOf bs; end = endOf bs; stop = sound; whole = wholeDictionary (closedFile bs r) (endOf bs) }
   unfolding reportOf
   closed-report = rw (closed-limit, closed-offset, scan-clean (closedFile bs r) (endOf bs) bs r behind-header refl few v)
 
@@ -147,7 +147,7 @@ module _ (bs : List Block) (v : Valid 0 bs) (few : length bs ≤ 4096) (r : List
 -- dictionary exactly where one of these is there
 pub record Reports (f : List ℕ) (bs : List Block) (part : ℕ) (ds : List (List ℕ)) : Type 0 where
   pub accepts : firstBroken (recoverRules f) ≡ sound
-  pub rows : reportOf f .rows ≡ rowsFrom 64 bs
+  pub rows : reportOf f .rows ≡ tableOf bs
   pub end : reportOf f .end ≡ endFrom 64 bs
   pub stop : reportOf f .stop ≡ stopFor (endFrom 64 bs) part
   pub whole : reportOf f .whole ≡ some ds
@@ -221,7 +221,7 @@ module _ (bs : List Block) (v : Valid 0 bs) (few : length bs ≤ 4096) where
     unfolding tailBytes
     recovers-behind d j p q b =
         rw (b .disk-is, b .blocks, b .stands, b .dictionaries)
-        (reports-closed (take j (tailBytes (endOf bs + 4 + length d) (rowsFrom 64 bs) d)) (cond (leb (4 + length d) j) (d ∷ []) [])
+        (reports-closed (take j (tailBytes (endOf bs + 4 + length d) (tableOf bs) d)) (cond (leb (4 + length d) j) (d ∷ []) [])
         (closed-whole d p q j _ ∙ some-cond (leb (4 + length d) j) d))
 
 -- every cut of the stores of a writer that began, which leaves a header
@@ -234,7 +234,7 @@ module _ (xs : List Adding) (v : Valid 0 (map blockFor xs)) (few : length (map b
   recovers {ss} b cut h = recovers-view ss cut (view xs b cut h)
 
 -- so the call, with a table that has room for the rows, gives the report and puts the rows in front of the table
-module _ (f : List ℕ) (bs : List Block) (part : ℕ) (ds : List (List ℕ)) (r : Reports f bs part ds) (table : List ℕ) (room : length (tableBytes (rowsFrom 64 bs)) ≤ length table) where
+module _ (f : List ℕ) (bs : List Block) (part : ℕ) (ds : List (List ℕ)) (r : Reports f bs part ds) (table : List ℕ) (room : length (tableBytes (tableOf bs)) ≤ length table) where
   rules-sound : firstBroken (callRules f (length table)) ≡ sound
   unfolding callRules roomRules
   rules-sound =
@@ -246,6 +246,6 @@ module _ (f : List ℕ) (bs : List Block) (part : ℕ) (ds : List (List ℕ)) (r
   unfolding recoverOf
   recover-gives = rw rules-sound
 
-  pub recover-leaves : recoverOut f table ≡ splice table 0 (tableBytes (rowsFrom 64 bs))
+  pub recover-leaves : recoverOut f table ≡ splice table 0 (tableBytes (tableOf bs))
   unfolding recoverOut
   recover-leaves = rw (rules-sound, r .rows)

@@ -14,10 +14,10 @@ use Rattle.verdict.specs.Rules.{sound, firstBroken, given, ruled}
 use Rattle.verdict.proofs.Laws.{first-none, equal-holds, least-holds, most-holds, then-sound}
 use Rattle.wire.specs.Wire.{part, splice}
 use Rattle.parts.specs.declared.Header.{Header}
-use Rattle.parts.specs.declared.IndexRow.{IndexRow}
+use Rattle.rows.specs.declared.Row.{Row}
 use Rattle.parts.specs.Parts.{emptyHeader, headerBytes, headerOf, footerBytes}
 use Rattle.parts.proofs.Parts.{length-header}
-use Rattle.layout.specs.Layout.{Block, blocksBytes, rowsFrom, indexBytes, tailBytes, finishedBytes}
+use Rattle.layout.specs.Layout.{Block, blocksBytes, indexBytes, tailBytes, finishedBytes, tableOf}
 use Rattle.layout.proofs.Along.{end-from}
 use Rattle.recovery.specs.Recovery.{recoverRules, Report, reportOf}
 use Rattle.frame.specs.Frame.{sizeAt, wholeDictionary}
@@ -60,7 +60,7 @@ module _ (f lent : List ℕ) where
       ∙ then-sound (lentRules (reportOf f) (length lent)) _ c
       ∙ least-holds 12 (length (repaired f lent)) [] room (length (repaired f lent)) h ∙ first-none
 
-  repaired-by : (rows : List IndexRow) (body d : List ℕ) → reportOf f .rows ≡ rows → part f 64 (reportOf f .end - 64) ≡ body → dictionaryFor f lent ≡ d
+  repaired-by : (rows : List Row) (body d : List ℕ) → reportOf f .rows ≡ rows → part f 64 (reportOf f .end - 64) ≡ body → dictionaryFor f lent ≡ d
       → repaired f lent ≡ finishedBytes rows body d
   unfolding repaired
   repaired-by rows body d a b c = rw (a, b, c)
@@ -82,7 +82,7 @@ module _ (f lent result : List ℕ) (g : Gives f lent result) (out : List ℕ) (
   unfolding repairOut
   repair-leaves = rw (g .accepts (length out) room, g .gives)
 
-gives-by : (f lent : List ℕ) (rows : List IndexRow) (body d : List ℕ) → firstBroken (recoverRules f) ≡ sound
+gives-by : (f lent : List ℕ) (rows : List Row) (body d : List ℕ) → firstBroken (recoverRules f) ≡ sound
     → firstBroken (closedRules (headerOf f .dictionary) (headerOf f .blocks) (reportOf f)) ≡ sound → firstBroken (lentRules (reportOf f) (length lent)) ≡ sound
     → reportOf f .rows ≡ rows → part f 64 (reportOf f .end - 64) ≡ body → dictionaryFor f lent ≡ d
     → Gives f lent (finishedBytes rows body d)
@@ -98,7 +98,7 @@ body-part f x t end here e =
 
 -- the header is the first one: the lent dictionary is needed
 gives-open : (bs : List Block) → Valid 0 bs → length bs ≤ 4096 → (cut : ℕ) → 64 ≤ cut → (lent : List ℕ) → 1 ≤ length lent → length lent < 256 ^ 4
-    → Gives (openFile (take (cut - 64) (blocksBytes 0 bs))) lent (finishedBytes (rowsFrom 64 (full 64 cut bs)) (blocksBytes 0 (full 64 cut bs)) lent)
+    → Gives (openFile (take (cut - 64) (blocksBytes 0 bs))) lent (finishedBytes (tableOf (full 64 cut bs)) (blocksBytes 0 (full 64 cut bs)) lent)
 unfolding dictionaryFor some
 gives-open bs v few cut h lent p q =
     let t = take (cut - 64) (blocksBytes 0 bs) in
@@ -108,7 +108,7 @@ gives-open bs v few cut h lent p q =
     let r = reports-open bs v few cut h in
     let w = open-whole t in
     let here : drop 64 f ≡ blocksBytes 0 fs ++ i .rest = drop-at (headerBytes emptyHeader) t 64 (length-header emptyHeader) ∙ i .bytes-are in
-    gives-by f lent (rowsFrom 64 fs) (blocksBytes 0 fs) lent (r .accepts)
+    gives-by f lent (tableOf fs) (blocksBytes 0 fs) lent (r .accepts)
     (closed-none (headerOf f .dictionary) (headerOf f .blocks) (reportOf f) (ap (λ (h : Header). h .dictionary) (open-header t)))
     (lent-fits (reportOf f) (length lent) (r .whole) p q)
     (r .rows)
@@ -118,13 +118,13 @@ gives-open bs v few cut h lent p q =
 -- the header is the last one: where the dictionary is whole it is used, and else the lent one
 module _ (bs : List Block) (v : Valid 0 bs) (few : length bs ≤ 4096) (r lent d : List ℕ) where
   gives-closed : firstBroken (lentRules (reportOf (closedFile bs r)) (length lent)) ≡ sound → dictionaryFor (closedFile bs r) lent ≡ d
-      → Gives (closedFile bs r) lent (finishedBytes (rowsFrom 64 bs) (blocksBytes 0 bs) d)
+      → Gives (closedFile bs r) lent (finishedBytes (tableOf bs) (blocksBytes 0 bs) d)
   gives-closed a b =
       let f = closedFile bs r in
       let e = closed-report bs v few r in
       let at = closed-offset bs v few r in
-      let rows : reportOf f .rows ≡ rowsFrom 64 bs = ap (λ (x : Report). x .rows) e in
-      gives-by f lent (rowsFrom 64 bs) (blocksBytes 0 bs) d (closed-accepted bs v few r)
+      let rows : reportOf f .rows ≡ tableOf bs = ap (λ (x : Report). x .rows) e in
+      gives-by f lent (tableOf bs) (blocksBytes 0 bs) d (closed-accepted bs v few r)
       (closed-agrees (headerOf f .dictionary) (headerOf f .blocks) (reportOf f) (λ z. omega arith) (ap (λ (x : Report). x .stop) e)
       (closed-count bs v few r ∙ ap length (sym rows)))
       a rows
@@ -132,14 +132,14 @@ module _ (bs : List Block) (v : Valid 0 bs) (few : length bs ≤ 4096) (r lent d
       b
 
   gives-own : wholeDictionary (closedFile bs r) (endOf bs) ≡ true → part (closedFile bs r) (endOf bs + 4) (sizeAt (closedFile bs r) (endOf bs)) ≡ d
-      → Gives (closedFile bs r) lent (finishedBytes (rowsFrom 64 bs) (blocksBytes 0 bs) d)
+      → Gives (closedFile bs r) lent (finishedBytes (tableOf bs) (blocksBytes 0 bs) d)
   unfolding dictionaryFor
   gives-own w p =
       gives-closed (lent-unneeded (reportOf (closedFile bs r)) (length lent) (ap (λ (x : Report). x .whole) (closed-report bs v few r) ∙ w))
       (rw (closed-offset bs v few r, w) p)
 
 gives-lent : (bs : List Block) → Valid 0 bs → length bs ≤ 4096 → (r lent : List ℕ) → wholeDictionary (closedFile bs r) (endOf bs) ≡ false
-    → 1 ≤ length lent → length lent < 256 ^ 4 → Gives (closedFile bs r) lent (finishedBytes (rowsFrom 64 bs) (blocksBytes 0 bs) lent)
+    → 1 ≤ length lent → length lent < 256 ^ 4 → Gives (closedFile bs r) lent (finishedBytes (tableOf bs) (blocksBytes 0 bs) lent)
 unfolding dictionaryFor
 gives-lent bs v few r lent w p q =
     gives-closed bs v few r lent lent (lent-fits (reportOf (closedFile bs r)) (length lent) (ap (λ (x : Report). x .whole) (closed-report bs v few r) ∙ w) p q)
@@ -150,7 +150,7 @@ gives-lent bs v few r lent w p q =
 pub record Repairs (ss : List Store) (cut : ℕ) : Type 0 where
   pub own : (lent d : List ℕ) → dictionariesInFull cut ss ≡ d ∷ [] → Gives (disk cut [] ss) lent (finished ss)
   pub lent : (lent : List ℕ) → dictionariesInFull cut ss ≡ [] → 1 ≤ length lent → length lent < 256 ^ 4
-      → Gives (disk cut [] ss) lent (finishedBytes (rowsFrom 64 (blocksIn 0 cut ss)) (blocksBytes 0 (blocksIn 0 cut ss)) lent)
+      → Gives (disk cut [] ss) lent (finishedBytes (tableOf (blocksIn 0 cut ss)) (blocksBytes 0 (blocksIn 0 cut ss)) lent)
 
 module _ (xs : List Adding) (v : Valid 0 (map blockFor xs)) (few : length (map blockFor xs) ≤ 4096) (ss : List Store) (cut : ℕ) where
   abbrev bs : List Block
@@ -166,8 +166,8 @@ module _ (xs : List Adding) (v : Valid 0 (map blockFor xs)) (few : length (map b
   repairs-behind : (d : List ℕ) (j : ℕ) → ss ≡ closedStores xs d → 1 ≤ length d → length d < 256 ^ 4 → Behind ss cut bs d j → Repairs ss cut
   unfolding tailBytes
   repairs-behind d j s p q b =
-      let r = take j (tailBytes (endOf bs + 4 + length d) (rowsFrom 64 bs) d) in
-      let t = indexBytes (rowsFrom 64 bs) ++ footerBytes (record { index = endOf bs + 4 + length d }) in
+      let r = take j (tailBytes (endOf bs + 4 + length d) (tableOf bs) d) in
+      let t = indexBytes (tableOf bs) ++ footerBytes (record { index = endOf bs + 4 + length d }) in
       let w : wholeDictionary (closedFile bs r) (endOf bs) ≡ leb (4 + length d) j = closed-whole bs v few d p q j t in
       elim (decLe (4 + length d) j) [
         | yes c ↦

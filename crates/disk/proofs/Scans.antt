@@ -12,12 +12,12 @@ use Rattle.verdict.specs.Rules.{Verdict, sound, broken, firstBroken}
 use Rattle.wire.proofs.Lists.{take-past}
 use Rattle.crc32.specs.Crc.{crc32}
 use Rattle.crc32.proofs.Register.{crc32-small}
-use Rattle.parts.specs.declared.IndexRow.{IndexRow}
+use Rattle.rows.specs.declared.Row.{Row}
 use Rattle.parts.specs.Parts.{blockHeaderBytes, BlockHeaderFits}
 use Rattle.parts.proofs.Parts.{length-block-header, block-header-back}
-use Rattle.blocks.specs.Blocks.{headAt, storedAt, endAt, blockRules, rowAt, Scan, stopped, before, scanFrom, scanOf}
+use Rattle.blocks.specs.Blocks.{headAt, storedAt, endAt, blockRules, blockRow, Scan, stopped, before, scanFrom, scanOf}
 use Rattle.blocks.proofs.Rules.{head-stored, head-sound, sum-agrees, block-no-room, block-head, block-sum}
-use Rattle.layout.specs.Layout.{Block, headOf, blockBytes, blockSize, blocksBytes, rowFor, rowsFrom, endFrom}
+use Rattle.layout.specs.Layout.{Block, headOf, blockBytes, blockSize, blocksBytes, rowFor, rowsFrom, endFrom, tableOf}
 use Rattle.layout.proofs.Parts.{length-block}
 use Rattle.layout.proofs.Along.{end-from}
 use Rattle.disk.proofs.Blocks.{Good, Valid, lastEnd, first-block, length-blocks}
@@ -71,8 +71,8 @@ module _ (f : List ℕ) (at n earliest : ℕ) (b : Block) (t : List ℕ) (here :
   unfolding endAt headOf
   end-back = rw head-back (add-assoc at 36 (length (b .stored)))
 
-  pub row-back : rowAt f at ≡ rowFor at b
-  unfolding rowAt rowFor headOf
+  pub row-back : blockRow f at ≡ rowFor n at b
+  unfolding blockRow rowFor headOf
   row-back = rw head-back
 
   pub drop-back : drop (at + blockSize b) f ≡ t
@@ -87,19 +87,20 @@ module _ (f : List ℕ) (at n earliest : ℕ) (b : Block) (t : List ℕ) (here :
 
   -- so the scan goes on behind it
   scan-pass : (k limit : ℕ) → at + blockSize b ≤ limit
-      → scanFrom crc32 (suc k) f limit at n earliest ≡ before (rowFor at b) (scanFrom crc32 k f limit (at + blockSize b) (suc n) (b .end))
+      → scanFrom crc32 (suc k) f limit at n earliest ≡ before (rowFor n at b) (scanFrom crc32 k f limit (at + blockSize b) (suc n) (b .end))
   unfolding scanFrom headOf
   scan-pass k limit h = rw (lt-ltb at limit (omega arith), sound-back limit h, row-back, end-back, head-back)
 
 -- ---- blocks end to end
 
 -- rows before what a scan finds behind them
-abbrev pub following : List IndexRow → Scan → Scan
+abbrev pub following : List Row → Scan → Scan
 following rows s = record { rows = rows ++ s .rows; end = s .end; stop = s .stop }
 
 pub scan-blocks : (f : List ℕ) (limit k : ℕ) (bs : List Block) (at n earliest : ℕ) (t : List ℕ) → drop at f ≡ blocksBytes n bs ++ t
     → at + length (blocksBytes n bs) ≤ limit → Valid earliest bs → n + length bs ≤ 256 ^ 4
-    → scanFrom crc32 (length bs + k) f limit at n earliest ≡ following (rowsFrom at bs) (scanFrom crc32 k f limit (endFrom at bs) (n + length bs) (lastEnd earliest bs))
+    → scanFrom crc32 (length bs + k) f limit at n earliest
+    ≡ following (rowsFrom n at bs) (scanFrom crc32 k f limit (endFrom at bs) (n + length bs) (lastEnd earliest bs))
 unfolding Valid rowsFrom endFrom lastEnd
 scan-blocks f limit k [] at n earliest t here h v few = rw (zero-add, add-zero)
 scan-blocks f limit k (b ∷ bs) at n earliest t here h v few =
@@ -124,31 +125,31 @@ scan-none (suc k) f limit at n earliest h = rw (le-ltb at limit h)
 -- all of them, and nothing behind them before the limit
 scan-all : (k : ℕ) (f : List ℕ) (limit at n earliest : ℕ) (bs : List Block) (t : List ℕ) → drop at f ≡ blocksBytes n bs ++ t
     → at + length (blocksBytes n bs) ≡ limit → Valid earliest bs → n + length bs ≤ 256 ^ 4 → length bs ≤ k
-    → scanFrom crc32 k f limit at n earliest ≡ record { rows = rowsFrom at bs; end = limit; stop = sound }
+    → scanFrom crc32 k f limit at n earliest ≡ record { rows = rowsFrom n at bs; end = limit; stop = sound }
 scan-all k f limit at n earliest bs t here e v few h =
     let q : k ≡ length bs + (k - length bs) = omega arith in
     let p : endFrom at bs ≡ limit = end-from at n bs ∙ e in
     ap (λ (j : ℕ). scanFrom crc32 j f limit at n earliest) q
     ∙ scan-blocks f limit (k - length bs) bs at n earliest t here (omega arith) v few
-    ∙ rw (scan-none (k - length bs) f limit (endFrom at bs) (n + length bs) (lastEnd earliest bs) (omega arith), p, append-nil (rowsFrom at bs))
+    ∙ rw (scan-none (k - length bs) f limit (endFrom at bs) (n + length bs) (lastEnd earliest bs) (omega arith), p, append-nil (rowsFrom n at bs))
 
 pub scan-clean : (f : List ℕ) (limit : ℕ) (bs : List Block) (t : List ℕ) → drop 64 f ≡ blocksBytes 0 bs ++ t
     → limit ≡ 64 + length (blocksBytes 0 bs) → length bs ≤ 4096 → Valid 0 bs
-    → scanOf crc32 f limit ≡ record { rows = rowsFrom 64 bs; end = limit; stop = sound }
+    → scanOf crc32 f limit ≡ record { rows = tableOf bs; end = limit; stop = sound }
 unfolding scanOf
 scan-clean f limit bs t here e few v = scan-all 4096 f limit 64 0 0 bs t here (sym e) v (omega arith) few
 
 -- ---- blocks up to a cut
 
--- a scan that finds blocks from a place on, and no more, and what stops it
-pub record Finds (at : ℕ) (bs : List Block) (v : Verdict) (s : Scan) : Type 0 where
-  pub rows : s .rows ≡ rowsFrom at bs
+-- a scan that finds blocks from a place on, the first of them number n, and no more, and what stops it
+pub record Finds (n at : ℕ) (bs : List Block) (v : Verdict) (s : Scan) : Type 0 where
+  pub rows : s .rows ≡ rowsFrom n at bs
   pub end : s .end ≡ endFrom at bs
   pub stop : s .stop ≡ v
 
-none-found : (at : ℕ) (v : Verdict) → Finds at [] v (stopped at v)
+none-found : (n at : ℕ) (v : Verdict) → Finds n at [] v (stopped at v)
 unfolding rowsFrom endFrom
-none-found at v = record { rows = refl; end = refl; stop = refl }
+none-found n at v = record { rows = refl; end = refl; stop = refl }
 
 -- with some bytes of a block standing there
 stop-short : (at n : ℕ) → 1 ≤ n → n < 36 → stopFor at n ≡ broken 6 at
@@ -166,13 +167,13 @@ unfolding stopFor
 stop-none at n e = rw e
 
 stop-at : (k : ℕ) (f : List ℕ) (limit at n earliest m p : ℕ) → broken m p ≡ firstBroken (blockRules crc32 f limit at n earliest) → at < limit
-    → Finds at [] (broken m p) (scanFrom crc32 (suc k) f limit at n earliest)
+    → Finds n at [] (broken m p) (scanFrom crc32 (suc k) f limit at n earliest)
 unfolding scanFrom
-stop-at k f limit at n earliest m p e h = rw (lt-ltb at limit h, ← e) (none-found at (broken m p))
+stop-at k f limit at n earliest m p e h = rw (lt-ltb at limit h, ← e) (none-found n at (broken m p))
 
 -- of the next block not all bytes stand
 scan-part : (fuel : ℕ) (f : List ℕ) (limit at n earliest k : ℕ) (b : Block) (t : List ℕ) → drop at f ≡ take k (blockBytes n b ++ t)
-    → limit ≡ at + k → k < blockSize b → n < 256 ^ 4 → Good earliest b → Finds at [] (stopFor at k) (scanFrom crc32 (suc fuel) f limit at n earliest)
+    → limit ≡ at + k → k < blockSize b → n < 256 ^ 4 → Good earliest b → Finds n at [] (stopFor at k) (scanFrom crc32 (suc fuel) f limit at n earliest)
 unfolding blockBytes
 scan-part fuel f limit at n earliest k b t here e l small g =
     elim (decLe 36 k) [
@@ -188,14 +189,14 @@ scan-part fuel f limit at n earliest k b t here e l small g =
             | yes p ↦
                 rw (stop-short at k p (omega arith))
                 (stop-at fuel f limit at n earliest 6 at (sym (block-no-room crc32 f limit at n earliest (omega arith))) (omega arith))
-            | no p ↦ rw (stop-none at k (omega arith), scan-none (suc fuel) f limit at n earliest (omega arith)) (none-found at sound)
+            | no p ↦ rw (stop-none at k (omega arith), scan-none (suc fuel) f limit at n earliest (omega arith)) (none-found n at sound)
           ]
     ]
 
-one-found : (at : ℕ) (b : Block) (bs : List Block) (v : Verdict) (s : Scan) → Finds (at + blockSize b) bs v s
-    → Finds at (b ∷ bs) v (before (rowFor at b) s)
+one-found : (n at : ℕ) (b : Block) (bs : List Block) (v : Verdict) (s : Scan) → Finds (suc n) (at + blockSize b) bs v s
+    → Finds n at (b ∷ bs) v (before (rowFor n at b) s)
 unfolding rowsFrom endFrom
-one-found at b bs v s i = record { rows = ap (λ (l : List IndexRow). rowFor at b ∷ l) (i .rows); end = i .end; stop = i .stop }
+one-found n at b bs v s i = record { rows = ap (λ (l : List Row). rowFor n at b ∷ l) (i .rows); end = i .end; stop = i .stop }
 
 take-blocks : (k n : ℕ) (b : Block) (bs : List Block) → blockSize b ≤ k
     → take k (blocksBytes n (b ∷ bs)) ≡ blockBytes n b ++ take (k - blockSize b) (blocksBytes (suc n) bs)
@@ -223,11 +224,11 @@ stands-part k n b bs h = length-take-le k (blocksBytes n (b ∷ bs)) (omega (ari
 
 scan-cut-from : (fuel : ℕ) (f : List ℕ) (limit at n earliest k cut : ℕ) (bs : List Block) → drop at f ≡ take k (blocksBytes n bs)
     → limit ≡ at + length (take k (blocksBytes n bs)) → at + k ≡ cut → length bs ≤ fuel → n + length bs ≤ 256 ^ 4 → Valid earliest bs
-    → Finds at (full at cut bs) (stopFor (endFrom at (full at cut bs)) (partOf at cut bs)) (scanFrom crc32 fuel f limit at n earliest)
+    → Finds n at (full at cut bs) (stopFor (endFrom at (full at cut bs)) (partOf at cut bs)) (scanFrom crc32 fuel f limit at n earliest)
 unfolding Valid full partOf stopFor endFrom
 scan-cut-from fuel f limit at n earliest k cut [] here e c few small v =
     let l = stands-none k n in
-    rw (scan-none fuel f limit at n earliest (omega arith)) (none-found at sound)
+    rw (scan-none fuel f limit at n earliest (omega arith)) (none-found n at sound)
 scan-cut-from zero f limit at n earliest k cut (b ∷ bs) here e c few small v = absurd (not-suc-le-zero few)
 scan-cut-from (suc fuel) f limit at n earliest k cut (b ∷ bs) here e c few small v =
     let m : n < 256 ^ 4 = omega arith in
@@ -237,7 +238,7 @@ scan-cut-from (suc fuel) f limit at n earliest k cut (b ∷ bs) here e c few sma
           let there : drop at f ≡ blockBytes n b ++ t = here ∙ take-blocks k n b bs h in
           let l = stands-first k n b bs h in
           rw (full-first at cut b bs (omega arith), part-first at cut b bs (omega arith), scan-pass f at n earliest b t there m (v .0) fuel limit (omega arith))
-          (one-found at b _ _ _
+          (one-found n at b _ _ _
           (scan-cut-from fuel f limit (at + blockSize b) (suc n) (b .end) (k - blockSize b) cut bs (drop-back f at n earliest b t there m (v .0))
           (omega arith) (omega arith) (omega arith) (omega arith) (v .1))))
       | no h ↦
@@ -249,7 +250,7 @@ scan-cut-from (suc fuel) f limit at n earliest k cut (b ∷ bs) here e c few sma
 
 pub scan-cut : (f h : List ℕ) (limit k cut : ℕ) (bs : List Block) → f ≡ h ++ take k (blocksBytes 0 bs) → length h ≡ 64 → limit ≡ length f → 64 + k ≡ cut
     → length bs ≤ 4096 → Valid 0 bs
-    → Finds 64 (full 64 cut bs) (stopFor (endFrom 64 (full 64 cut bs)) (partOf 64 cut bs)) (scanOf crc32 f limit)
+    → Finds 0 64 (full 64 cut bs) (stopFor (endFrom 64 (full 64 cut bs)) (partOf 64 cut bs)) (scanOf crc32 f limit)
 unfolding scanOf
 scan-cut f h limit k cut bs e l m c few v =
     let x = take k (blocksBytes 0 bs) in

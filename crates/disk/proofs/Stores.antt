@@ -2,9 +2,9 @@
 use mathlib.Core.List.{List, [], _∷_, _++_, map}
 use Prim.Native.Nat.{ℕ, suc, _+_, _^_, _≤_, _<_}
 use lib.ListN.{length}
-use Rattle.parts.specs.declared.IndexRow.{IndexRow}
+use Rattle.rows.specs.declared.Row.{Row}
 use Rattle.parts.specs.Parts.{emptyHeader, headerBytes, footerBytes}
-use Rattle.layout.specs.Layout.{blockBytes, blocksBytes, rowsFrom, closedHeader, dictionaryBytes, indexBytes}
+use Rattle.layout.specs.Layout.{blockBytes, blocksBytes, closedHeader, dictionaryBytes, indexBytes, tableOf}
 use Rattle.writer_blocks.specs.Block.{Adding, blockFor}
 use Rattle.disk.specs.Disk.{Store, headerStore, blockStore, dictionaryStore, endStore, storeBytes}
 
@@ -19,7 +19,7 @@ blockStores n [] = []
 blockStores n (a ∷ xs) = blockStore a (blockBytes n (blockFor a)) ∷ blockStores (suc n) xs
 
 -- "header again with final values; dictionary; index; footer", where the blocks end at d
-unfoldable pub closingStores : ℕ → List IndexRow → List ℕ → List Store
+unfoldable pub closingStores : ℕ → List Row → List ℕ → List Store
 closingStores d rows s =
     headerStore (headerBytes (closedHeader d rows)) ∷ dictionaryStore s (dictionaryBytes s) ∷ endStore (indexBytes rows)
     ∷ endStore (footerBytes (record { index = d + 4 + length s })) ∷ []
@@ -31,7 +31,7 @@ openStores xs = headerStore (headerBytes emptyHeader) ∷ blockStores 0 xs
 -- all the stores of a file, with its stored dictionary
 unfoldable pub closedStores : List Adding → List ℕ → List Store
 closedStores xs d =
-    openStores xs ++ closingStores (64 + length (blocksBytes 0 (map blockFor xs))) (rowsFrom 64 (map blockFor xs)) d
+    openStores xs ++ closingStores (64 + length (blocksBytes 0 (map blockFor xs))) (tableOf (map blockFor xs)) d
 
 -- the stores of a writer that began: its blocks, in order, and perhaps a closing with a stored dictionary, "u32 stored size (at least 1)"
 pub data Begun (xs : List Adding) : List Store → Type 0 where

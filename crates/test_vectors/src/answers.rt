@@ -231,7 +231,7 @@ pub fn query(s: &[u8], out: &mut [u8]) -> usize
     let from = Epoch(wire::u64_at(s, 0));
     let to = Epoch(wire::u64_at(s, 8));
     let table = wire::part_at(s, 16, s.len());
-    let mut numbers = [4_294_967_295u32; 4];
+    let mut numbers = [9u32; 4];
     let q = query::query(table, from, to, &mut numbers);
     queried(q, &numbers, out)
 }
@@ -242,7 +242,7 @@ pub fn slices(s: &[u8], out: &mut [u8]) -> usize
     let from = Epoch(wire::u64_at(s, 0));
     let to = Epoch(wire::u64_at(s, 8));
     let table = wire::part_at(s, 16, s.len());
-    let mut numbers = [4_294_967_295u32; 4];
+    let mut numbers = [9u32; 4];
     let q = held::ask(table, from, to, &mut numbers);
     queried(q, &numbers, out)
 }
@@ -314,7 +314,7 @@ fn reported(r: Report, table: &[u8], out: &mut [u8]) -> usize
 pub fn recover(s: &[u8], out: &mut [u8]) -> usize
     ensures { λ r. ⌜ Counts r (now (out .exit)) ⌝ }
 {
-    let mut table = [0xAAu8; 60];
+    let mut table = [0xAAu8; 68];
     let r = recovery::recover(s, &mut table);
     match r {
         Recovered::Found(r) => reported(r, &table, out),

@@ -100,8 +100,8 @@ pub fn storage() -> [u8; 270000]
 }
 
 // Zeros, for 4,096 rows.
-pub fn table() -> [u8; 114688]
-    ensures { λ r. ⌜ 114688 ≡ length r ⌝ }
+pub fn table() -> [u8; 131072]
+    ensures { λ r. ⌜ 131072 ≡ length r ⌝ }
 {
-    [0; 114688]
+    [0; 131072]
 }

@@ -3,10 +3,10 @@ use blocks::Scanned;
 use frame::Frame;
 use libc::STDOUT_FILENO;
 use parts::Epoch;
-use parts::IndexRow;
 use reader::Opened;
 use recovery::Recovered;
 use recovery::Report;
+use rows::Row;
 use verdict::Checked;
 use verdict::Refusal;
 
@@ -127,7 +127,7 @@ pub fn recovered(r: Recovered) {
     }
 }
 
-fn row(r: IndexRow) {
+fn row(r: Row) {
     say(b"row");
     time(r.start);
     time(r.end);

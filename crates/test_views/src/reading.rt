@@ -2,9 +2,9 @@
 use crate::print;
 use access::Located;
 use parts::Epoch;
-use parts::IndexRow;
 use reader::Opened;
 use recovery::Recovered;
+use rows::Row;
 
 fn open(f: &[u8], table: &mut [u8]) {
     let o = reader::open(f, table);
@@ -78,11 +78,12 @@ pub fn stored(f: &[u8], table: &mut [u8], i: u64) {
 
 // The stored bytes of a block by a row that may be any.
 pub fn stored_at(f: &[u8], offset: u64, size: u32) {
-    let row = IndexRow {
+    let row = Row {
         start: Epoch(0),
         end: Epoch(0),
         offset,
         stored: size,
+        number: 0,
     };
     print::bytes_line(access::stored(f, row));
 }

@@ -2,7 +2,7 @@
 //
 // A line of standard input is a command and its words, with one space between them: numbers in decimal, bytes in hexadecimal ('-' for none).
 // Empty lines and those that start with '#' are passed over. Kept from line to line are a file and a writer with the bytes lent to it: a plain
-// dictionary of 4,096 bytes, the open block's plain bytes of 4,096, rows of 114,688, an output of 270,000. What the writer stores is put in the
+// dictionary of 4,096 bytes, the open block's plain bytes of 4,096, rows of 131,072, an output of 270,000. What the writer stores is put in the
 // file, headers at its start and other stores at its end. ROOM is how much of a lent buffer is lent in that call. Commands and what they print,
 // beside those of the crate `test_views`, which look at the file:
 //   new                          nothing: a new writer and an empty file

@@ -4,7 +4,7 @@ use mathlib.Core.List.{List}
 use Prim.Native.Nat.{ℕ, _/_}
 use lib.ListN.{length}
 use Rattle.verdict.specs.Rules.{Outcome, firstBroken, settle, onGiven}
-use Rattle.parts.specs.declared.IndexRow.{IndexRow}
+use Rattle.rows.specs.declared.Row.{Row}
 use Rattle.rows.specs.Rows.{stride}
 use Rattle.access.specs.Access.{rowIn}
 use Rattle.access.specs.Answer.{locatedOf}
@@ -21,7 +21,7 @@ located : (c : tie.After-locate) →
 located c = rw (c .before .room .ensures) at (c .locate .ensures)
 
 -- what is answered of a row that was looked for
-abbrev answer : List ℕ → Outcome IndexRow → BlockAnswer
+abbrev answer : List ℕ → Outcome Row → BlockAnswer
 answer log o = headerAnswer log (onGiven o (λ row. settle (firstBroken (headerRules log (row .offset))) (row .offset)))
 
 returns : tie.Need-returns

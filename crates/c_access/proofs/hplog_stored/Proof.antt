@@ -3,7 +3,7 @@ use mathlib.Core.Path.{_≡_, ap, _∙_}
 use Prim.Native.Nat.{_/_}
 use lib.ListN.{length}
 use Rattle.verdict.specs.Rules.{Outcome, given, onGiven}
-use Rattle.parts.specs.declared.IndexRow.{IndexRow}
+use Rattle.rows.specs.declared.Row.{Row}
 use Rattle.rows.specs.Rows.{stride}
 use Rattle.access.specs.declared.Span.{Span}
 use Rattle.access.specs.Access.{rowIn, storedSpan}
@@ -27,7 +27,7 @@ returns c =
     let l = k .before .before in
     let log = l .before .before .before .before .args .log .now in
     c .found .ensures ∙ ap (λ (p : Span). spanAnswer (given p)) (s .stored-span .ensures)
-    ∙ ap (λ (o : Outcome IndexRow). spanAnswer (onGiven o (λ row. given (storedSpan log row)))) (rw (k .l .given .1) at (located l))
+    ∙ ap (λ (o : Outcome Row). spanAnswer (onGiven o (λ row. given (storedSpan log row)))) (rw (k .l .given .1) at (located l))
 
 returns-2 : tie.Need-returns-2
 unfolding cStoredOf
@@ -35,7 +35,7 @@ returns-2 c =
     let k = c .before .before in
     let l = k .before .before in
     let log = l .before .before .before .before .args .log .now in
-    c .refused .ensures ∙ ap (λ (o : Outcome IndexRow). spanAnswer (onGiven o (λ row. given (storedSpan log row)))) (rw (k .l2 .given .1) at (located l))
+    c .refused .ensures ∙ ap (λ (o : Outcome Row). spanAnswer (onGiven o (λ row. given (storedSpan log row)))) (rw (k .l2 .given .1) at (located l))
 
 pub hplog-stored-spec : {M : Type 1} → statement M
 hplog-stored-spec =

@@ -6,7 +6,7 @@ use mathlib.Core.List.{List, [], _∷_}
 use lib.ListN.{length, drop}
 use Rattle.wire.specs.Wire.{splice}
 use Rattle.wire.proofs.Splices.{length-splice}
-use Rattle.parts.specs.declared.IndexRow.{IndexRow}
+use Rattle.rows.specs.declared.Row.{Row}
 use Rattle.rows.specs.Rows.{stride}
 use Rattle.rows.proofs.Rows.{row-part, rows-turn, rows-end, length-rows}
 use Rattle.query.specs.Query.{chosen}
@@ -80,7 +80,7 @@ returns c =
     let l = c .before in
     let a = l .before .before .before .before .args in
     sym (put-end (a .from) (a .to) (l .loop .out) (l .loop .at) (l .loop .i))
-    ∙ ap (λ (rs : List IndexRow). splice (l .loop .out) (l .loop .at) (numbersBytes (chosen (a .from) (a .to) (l .loop .i) rs)))
+    ∙ ap (λ (rs : List Row). splice (l .loop .out) (l .loop .at) (numbersBytes (chosen (a .from) (a .to) (l .loop .i) rs)))
     (sym (rows-end _ (a .rows .now) (l .loop .i) (omega arith)))
     ∙ l .loop .inv .3
 

@@ -9,7 +9,7 @@ returns : tie.Need-returns
 returns c =
     let k = c .before .before .before .before .before in
     let b = rw (k .before .before .before .writer-in .ensures) at (k .add-block .ensures) in
-    (c .stored-by .ensures ∙ ap (storing _) (b .0), b .1)
+    (c .stored-by .ensures ∙ ap (storing _) (b .answers), b .fills, b .leaves)
 
 pub hplog-add-block-spec : {M : Type 1} → statement M
 hplog-add-block-spec =

@@ -53,21 +53,21 @@ use denote.Exit.{yes}
 use borrow.Table.Elements.{at as past, cut-app, join-app}
 use borrow.Table.OneValue.{retype}
 use Rattle.wire.specs.Wire.{splice}
-use Rattle.parts.specs.declared.IndexRow.{IndexRow}
+use Rattle.rows.specs.declared.Row.{Row}
 use Rattle.parts.specs.declared.time.Epoch.{Epoch}
 use Rattle.rows.specs.Rows.{stride, rowsOf}
 use Rattle.query.specs.declared.Queried.{Queried}
 use Rattle.query.specs.Query.{queryOf, queryOut}
 use Rattle.query.specs.Answer.{queriedOf}
 use Rattle.query_slice.specs.Slices.{tableRows}
-use Rattle.parts.proofs.IndexRow as T
-use Rattle.parts.proofs.IndexRow.Laws as T′
+use Rattle.rows.proofs.Row as T
+use Rattle.rows.proofs.Row.Laws as T′
 use Rattle.parts.proofs.time.Epoch as E
 use Rattle.parts.proofs.time.Epoch.Laws as E′
-use Rattle.parts.proofs.IndexRow.empty as empty
-use Rattle.parts.proofs.IndexRow.empty.Symbol as empty-def
-use Rattle.parts.proofs.IndexRow.empty.Symbol.{name as #parts·IndexRow·empty}
-use Rattle.parts.proofs.IndexRow.empty.Met as empty-thm
+use Rattle.rows.proofs.Row.empty as empty
+use Rattle.rows.proofs.Row.empty.Symbol as empty-def
+use Rattle.rows.proofs.Row.empty.Symbol.{name as #rows·Row·empty}
+use Rattle.rows.proofs.Row.empty.Met as empty-thm
 use Rattle.query.proofs.Queried as N
 use Rattle.query.proofs.Queried.Laws as N′
 use Rattle.query_slice.proofs.Again.{LentAgain, lends-again, comes-back}
@@ -75,11 +75,11 @@ use Rattle.query_slice.proofs.Tables.{length-table, filled-rows}
 use Rattle.query_slice.proofs.Types.{R, word, epochTy, rowTy, queriedTy, tableTy, numbersTy, refTy, time, IsTime, time-typed}
 use Rattle.query_slice.proofs.fill as fill
 use Rattle.query_slice.proofs.fill.Symbol as fill-def
-use Rattle.query_slice.proofs.fill.Symbol.{name as #slices·fill}
+use Rattle.query_slice.proofs.fill.Symbol.{name as #query-slice·fill}
 use Rattle.query_slice.proofs.fill.Met as fill-thm
 use Rattle.query_slice.proofs.query as query
 use Rattle.query_slice.proofs.query.Symbol as query-def
-use Rattle.query_slice.proofs.query.Symbol.{name as #slices·query}
+use Rattle.query_slice.proofs.query.Symbol.{name as #query-slice·query}
 use Rattle.query_slice.proofs.query.Met as query-thm
 use Rattle.test_vectors.proofs.held.ask.Key.{name as #vectors·held·ask}
 use Rattle.test_vectors.proofs.held.ask as ask
@@ -105,15 +105,15 @@ abbrev immRowTy : Ty
 immRowTy = tyRef erased imm (pointee (R .written))
 
 -- eight times one row
-eight : (a : IndexRow) (u : Val) → Is R a (u ∷ []) → Is (Array R 8) (replicate 8 a) (arrayVal (replicate 8 u) ∷ [])
+eight : (a : Row) (u : Val) → Is R a (u ∷ []) → Is (Array R 8) (replicate 8 a) (arrayVal (replicate 8 u) ∷ [])
 eight a u is = (replicate 8 u, ((refl, refl), (is, (is, (is, (is, (is, (is, (is, (is, tt))))))))))
 
 module _ {M : Type 1} (𝓤 : URA M) (H : Heap 𝓤) (A : Atoms 𝓤) (W : Given 𝓤 H A) (b : ℕ) where
-  eight-typed : (a : IndexRow) (u : Val) → Is R a (u ∷ []) → Holds (hasTy heldTy (arrayVal (replicate 8 u))) × WT (arrayVal (replicate 8 u))
+  eight-typed : (a : Row) (u : Val) → Is R a (u ∷ []) → Holds (hasTy heldTy (arrayVal (replicate 8 u))) × WT (arrayVal (replicate 8 u))
   eight-typed a u is = array-lawful 𝓤 H A W R (LL.lawful T.the-type T′.the-laws 𝓤 H A W) 8 .typed (replicate 8 a) _ (eight a u is) .0
 
   -- a local array is its elements side by side, which are room for an array again
-  apart : (xs : List IndexRow) (v : Val) → Is (Array R 8) xs (v ∷ []) → ent 𝓤 (sem 𝓤 H A (fat fullShare heldTy b 0 v)) (sem 𝓤 H A (cells (mem R) xs b 0))
+  apart : (xs : List Row) (v : Val) → Is (Array R 8) xs (v ∷ []) → ent 𝓤 (sem 𝓤 H A (fat fullShare heldTy b 0 v)) (sem 𝓤 H A (cells (mem R) xs b 0))
   unfolding partOf
   apart xs v is =
       qed W (‵ (fat fullShare heldTy b 0 v) ∷ []) ∵ use1 W (‵ (fat fullShare (rawTy heldTy) b 0 v)) (retype 𝓤 H A W fullShare heldTy (rawTy heldTy) refl b 0 v) $
@@ -122,7 +122,7 @@ module _ {M : Type 1} (𝓤 : URA M) (H : Heap 𝓤) (A : Atoms 𝓤) (W : Given
       use1 W (‵ (arr-parts (shares R) 8 .part fullShare xs b 0)) (array-apart 𝓤 H A W R fullShare tt 8 xs b 0) $ fsplit ! $ drop ! $
       use1 W (‵ (cells (mem R) xs b 0)) (whole-in 𝓤 H A W R xs b 0) $ done !
 
-  together : (xs : List IndexRow) → length xs ≡ 8 → ent 𝓤 (sem 𝓤 H A (cells (mem R) xs b 0)) (sem 𝓤 H A (froom heldTy b 0))
+  together : (xs : List Row) → length xs ≡ 8 → ent 𝓤 (sem 𝓤 H A (cells (mem R) xs b 0)) (sem 𝓤 H A (froom heldTy b 0))
   unfolding partOf
   together xs e =
       qed W (‵ (cells (mem R) xs b 0) ∷ []) ∵ use1 W (‵ (row R fullShare xs b 0)) (whole-out 𝓤 H A W R xs b 0) $ feqI ! ℕ (length xs) 8 e $ fjoin ! $
@@ -131,18 +131,18 @@ module _ {M : Type 1} (𝓤 : URA M) (H : Heap 𝓤) (A : Atoms 𝓤) (W : Given
       use1 W (‵ (fat fullShare heldTy b 0 (arrayVal (is .0)))) (retype 𝓤 H A W fullShare (rawTy heldTy) heldTy refl b 0 (arrayVal (is .0))) $ forget ! 0 refl $ done !))
 
   -- the first k of the elements, and the others
-  abbrev Rest : List IndexRow → ℕ → Item 𝓤
+  abbrev Rest : List Row → ℕ → Item 𝓤
   Rest xs k = ‵ (cells (mem R) (drop-list k xs) b (past 0 (mem R .size) (length (take k xs))))
 
-  cuts : (xs : List IndexRow) (k : ℕ) → ent 𝓤 (sem 𝓤 H A (cells (mem R) xs b 0)) (sep 𝓤 (sem 𝓤 H A (cells (mem R) (take k xs) b 0)) (sem 𝓤 H A (cells (mem R) (drop-list k xs) b (past 0 (mem R .size) (length (take k xs))))))
+  cuts : (xs : List Row) (k : ℕ) → ent 𝓤 (sem 𝓤 H A (cells (mem R) xs b 0)) (sep 𝓤 (sem 𝓤 H A (cells (mem R) (take k xs) b 0)) (sem 𝓤 H A (cells (mem R) (drop-list k xs) b (past 0 (mem R .size) (length (take k xs))))))
   cuts xs k =
-      subst (λ (ys : List IndexRow). ent 𝓤 (sem 𝓤 H A (cells (mem R) ys b 0)) (sep 𝓤 (sem 𝓤 H A (cells (mem R) (take k xs) b 0)) (sem 𝓤 H A (cells (mem R) (drop-list k xs) b (past 0 (mem R .size) (length (take k xs)))))))
+      subst (λ (ys : List Row). ent 𝓤 (sem 𝓤 H A (cells (mem R) ys b 0)) (sep 𝓤 (sem 𝓤 H A (cells (mem R) (take k xs) b 0)) (sem 𝓤 H A (cells (mem R) (drop-list k xs) b (past 0 (mem R .size) (length (take k xs)))))))
       (take-append-drop k xs) (cut-app 𝓤 H A (mem R) (take k xs) (drop-list k xs) b 0)
 
-  joins : (xs : List IndexRow) (k : ℕ) → length xs ≡ 8 → ent 𝓤 (sep 𝓤 (sem 𝓤 H A (cells (mem R) (take k xs) b 0)) (sem 𝓤 H A (cells (mem R) (drop-list k xs) b (past 0 (mem R .size) (length (take k xs)))))) (sem 𝓤 H A (froom heldTy b 0))
+  joins : (xs : List Row) (k : ℕ) → length xs ≡ 8 → ent 𝓤 (sep 𝓤 (sem 𝓤 H A (cells (mem R) (take k xs) b 0)) (sem 𝓤 H A (cells (mem R) (drop-list k xs) b (past 0 (mem R .size) (length (take k xs)))))) (sem 𝓤 H A (froom heldTy b 0))
   joins xs k e =
       via 𝓤 (sem 𝓤 H A (cells (mem R) xs b 0))
-      (subst (λ (ys : List IndexRow). ent 𝓤 (sep 𝓤 (sem 𝓤 H A (cells (mem R) (take k xs) b 0)) (sem 𝓤 H A (cells (mem R) (drop-list k xs) b (past 0 (mem R .size) (length (take k xs)))))) (sem 𝓤 H A (cells (mem R) ys b 0)))
+      (subst (λ (ys : List Row). ent 𝓤 (sep 𝓤 (sem 𝓤 H A (cells (mem R) (take k xs) b 0)) (sem 𝓤 H A (cells (mem R) (drop-list k xs) b (past 0 (mem R .size) (length (take k xs)))))) (sem 𝓤 H A (cells (mem R) ys b 0)))
       (take-append-drop k xs) (join-app 𝓤 H A (mem R) (take k xs) (drop-list k xs) b 0)) (together xs e)
 
 -- ---- the walk
@@ -171,7 +171,7 @@ module _ {M : Type 1} (𝓤 : URA M) (H : Heap 𝓤) (A : Atoms 𝓤) (W : Given
   m = length l₀
 
   -- the rows that are asked
-  abbrev asked : List IndexRow
+  abbrev asked : List Row
   asked = rowsOf (min (length ts / stride) 8) ts
 
   abbrev x : RefT (List ℕ)
@@ -214,7 +214,7 @@ module _ {M : Type 1} (𝓤 : URA M) (H : Heap 𝓤) (A : Atoms 𝓤) (W : Given
     goes-empty : ent 𝓤 (sem 𝓤 H A ftrue) (Empty 𝓤 H A mem′ run .pre to-empty)
     goes-empty = qed W (‵ ftrue ∷ []) ∵ nothing ! $ move ! (1 ∷ 0 ∷ []) $ join ! $ frame ! $ done !
 
-    module _ (𝓣 : Tables 𝓤 H) (k-empty : Triple 𝓤 (𝓣 .C #parts·IndexRow·empty) (Empty 𝓤 H A mem′ run)) (k-fill : Triple 𝓤 (𝓣 .C #slices·fill) (Fill 𝓤 H A mem′ run)) (k-query : Triple 𝓤 (𝓣 .C #slices·query) (Query 𝓤 H A mem′ run))
+    module _ (𝓣 : Tables 𝓤 H) (k-empty : Triple 𝓤 (𝓣 .C #rows·Row·empty) (Empty 𝓤 H A mem′ run)) (k-fill : Triple 𝓤 (𝓣 .C #query-slice·fill) (Fill 𝓤 H A mem′ run)) (k-query : Triple 𝓤 (𝓣 .C #query-slice·query) (Query 𝓤 H A mem′ run))
         (l0 l1 l2 l3 l4 l5 l6 l7 l8 l9 l10 l11 l12 l13 : ℕ) where
       abbrev C : Calls 𝓤 H
       C = 𝓣 .C
@@ -226,7 +226,7 @@ module _ {M : Type 1} (𝓤 : URA M) (H : Heap 𝓤) (A : Atoms 𝓤) (W : Given
       En = (queriedTy, l0) ∷ (tableTy, l1) ∷ (epochTy, l2) ∷ (epochTy, l3) ∷ (numbersTy, l4) ∷ (rowTy, l5) ∷ (heldTy, l6) ∷ (word, l7) ∷ (mutHeldTy, l8) ∷ (sliceTy mutRowTy, l9) ∷ (immHeldTy, l10) ∷ (sliceTy immRowTy, l11) ∷ (refTy, l12) ∷ (sliceTy refTy, l13) ∷ []
 
       -- the borrow of the rows, under the name δ at the list xs, and its machine value at a count
-      abbrev h : GName → List IndexRow → RefT (List IndexRow)
+      abbrev h : GName → List Row → RefT (List Row)
       h δ xs = record { ptr = (l6, 0); name = δ; now = xs }
 
       abbrev sh : ℕ → Val
@@ -241,20 +241,20 @@ module _ {M : Type 1} (𝓤 : URA M) (H : Heap 𝓤) (A : Atoms 𝓤) (W : Given
       Ends = Owned l₀ ∷ ‵ (flft κ₁ q₁) ∷ Table ∷ ‵ (flft κ q) ∷ ‵ (fat fullShare tableTy l1 0 s) ∷ ‵ (fat fullShare epochTy l2 0 (time t1)) ∷ ‵ (fat fullShare epochTy l3 0 (time t2)) ∷ ‵ (fat fullShare numbersTy l4 0 so) ∷ ‵ (froom queriedTy l0 0) ∷ Dies
 
       -- the rest, where `fill` has put k rows and the elements are zs
-      abbrev Filled : ℕ → List IndexRow → List (Item 𝓤)
+      abbrev Filled : ℕ → List Row → List (Item 𝓤)
       Filled k zs = ‵ (cells (mem R) zs l6 0) ∷ ‵ (froom rowTy l5 0) ∷ ‵ (fat fullShare word l7 0 (vint w64 k)) ∷ ‵ (froom mutHeldTy l8 0) ∷ ‵ (froom (sliceTy mutRowTy) l9 0) ∷ ‵ (froom immHeldTy l10 0) ∷ ‵ (froom (sliceTy immRowTy) l11 0)
           ∷ ‵ (froom refTy l12 0) ∷ ‵ (froom (sliceTy refTy) l13 0) ∷ Ends
 
       -- ---- the second half: the first k rows are asked
 
-      module _ (k : ℕ) (zs : List IndexRow) (fk : k < 2 ^ 64) (long : length zs ≡ 8) (few : k ≤ 8) (these : take k zs ≡ asked) where
-        abbrev ks : List IndexRow
+      module _ (k : ℕ) (zs : List Row) (fk : k < 2 ^ 64) (long : length zs ≡ 8) (few : k ≤ 8) (these : take k zs ≡ asked) where
+        abbrev ks : List Row
         ks = take k zs
 
         count : length ks ≡ k
         count = length-take k zs ∙ omega arith
 
-        abbrev given-query : GName → GName → RefT (List IndexRow) × (Epoch × (Epoch × (RefT (List ℕ) × Unit {0})))
+        abbrev given-query : GName → GName → RefT (List Row) × (Epoch × (Epoch × (RefT (List ℕ) × Unit {0})))
         given-query δ ε = (h δ ks, (t1, (t2, (y ε l₀, tt))))
 
         abbrev to-query : (ν ν₂ : ℕ) (δ ε : GName) → Query 𝓤 H A mem′ run .Ghost
@@ -272,7 +272,7 @@ module _ {M : Type 1} (𝓤 : URA M) (H : Heap 𝓤) (A : Atoms 𝓤) (W : Given
         Answered c l = (queriedOf c ≡ queryOf ks t1 t2 m) × (l ≡ queryOut ks t1 t2 l₀)
 
         answers : (c : Queried) (l : List ℕ) → Answered c l → (queriedOf c ≡ queryOf asked t1 t2 m) × (l ≡ queryOut asked t1 t2 l₀)
-        answers c l p = (p .0 ∙ ap (λ (rs : List IndexRow). queryOf rs t1 t2 m) these, p .1 ∙ ap (λ (rs : List IndexRow). queryOut rs t1 t2 l₀) these)
+        answers c l p = (p .0 ∙ ap (λ (rs : List Row). queryOf rs t1 t2 m) these, p .1 ∙ ap (λ (rs : List Row). queryOut rs t1 t2 l₀) these)
 
         asks : ent 𝓤 (⋆ 𝓤 H A (Filled k zs)) (Wp 𝓤 H C Λ En mirs.t-6 (atReturn 𝓤 H En Post))
         asks =
@@ -313,11 +313,11 @@ module _ {M : Type 1} (𝓤 : URA M) (H : Heap 𝓤) (A : Atoms 𝓤) (W : Given
 
       -- ---- the first half: the array is made, and filled
 
-      module _ (a : IndexRow) where
-        abbrev xs : List IndexRow
+      module _ (a : Row) where
+        abbrev xs : List Row
         xs = replicate 8 a
 
-        abbrev given-fill : GName → RefT (List ℕ) × (RefT (List IndexRow) × Unit {0})
+        abbrev given-fill : GName → RefT (List ℕ) × (RefT (List Row) × Unit {0})
         given-fill δ = (x, (h δ xs, tt))
 
         abbrev to-fill : ℕ → GName → Fill 𝓤 H A mem′ run .Ghost
@@ -330,10 +330,10 @@ module _ {M : Type 1} (𝓤 : URA M) (H : Heap 𝓤) (A : Atoms 𝓤) (W : Given
             split ! $ nothing ! $ move ! (2 ∷ 0 ∷ []) $ join ! $ move ! (1 ∷ 0 ∷ []) $ join ! $
             nothing ! $ move ! (3 ∷ 0 ∷ []) $ fjoin ! $ move ! (2 ∷ 0 ∷ []) $ fjoin ! $ move ! (1 ∷ 0 ∷ []) $ join ! $ frame ! $ done !
 
-        abbrev Put : ℕ → List IndexRow → Type 0
+        abbrev Put : ℕ → List Row → Type 0
         Put k zs = (k ≡ min (length (tableRows ts)) (length xs)) × (zs ≡ splice xs 0 (tableRows ts))
 
-        put-asked : (k : ℕ) (zs : List IndexRow) → Put k zs → take k zs ≡ asked
+        put-asked : (k : ℕ) (zs : List Row) → Put k zs → take k zs ≡ asked
         put-asked k zs p =
             let e : k ≡ min (length ts / stride) 8 = omega (arith, p .0, length-table ts) in
             ap (take k) (p .1) ∙ filled-rows ts xs k (p .0) ∙ ap (λ (j : ℕ). rowsOf j ts) e
@@ -345,7 +345,7 @@ module _ {M : Type 1} (𝓤 : URA M) (H : Heap 𝓤) (A : Atoms 𝓤) (W : Given
           exec ! C Λ En mirs.t-1 (atRet En Post) $
           nothing ! $ use1 W (raw (Empty 𝓤 H A mem′ run .pre to-empty)) goes-empty $
           calls-at ! (fmOf 𝓤 H (W .laws) 𝓣) (Empty 𝓤 H A mem′ run) k-empty to-empty (no-more !) (λ u.
-          use1 W (later (some (λ (a : IndexRow). (‵ ftrue ⊛ ‵ (R .own a (u ∷ []))) ⊛ raw (ensured 𝓤 H A empty.ended (empty.clauses 𝓤 H A mem′ run) tt tt tt a)))) (id⊢ 𝓤 _) $ await ! tt $ pick ! (λ a.
+          use1 W (later (some (λ (a : Row). (‵ ftrue ⊛ ‵ (R .own a (u ∷ []))) ⊛ raw (ensured 𝓤 H A empty.ended (empty.clauses 𝓤 H A mem′ run) tt tt tt a)))) (id⊢ 𝓤 _) $ await ! tt $ pick ! (λ a.
           split ! $ move ! (1 ∷ []) $ drop ! $ split ! $ drop ! $ peeks ! R (Is R) (shows 𝓤 H A R) a (u ∷ []) (λ is-a.
           land ! (from ! (stop !)) (init ! 1 refl (LL.lawful T.the-type T′.the-laws 𝓤 H A W .typed a _ is-a .0)) $ drop ! $
           assigns ! (rep ! 8 (load ! (from ! (stop !)) (look ! 0 refl))) (from ! (stop !)) (init ! 1 refl (eight-typed 𝓤 H A W l6 a u is-a)) $
@@ -373,7 +373,7 @@ module _ {M : Type 1} (𝓤 : URA M) (H : Heap 𝓤) (A : Atoms 𝓤) (W : Given
           keep ! (0 ∷ 5 ∷ 6 ∷ 7 ∷ 8 ∷ 9 ∷ 10 ∷ 11 ∷ 12 ∷ 13 ∷ 14 ∷ 4 ∷ 2 ∷ 15 ∷ 16 ∷ 17 ∷ 18 ∷ 19 ∷ 20 ∷ 21 ∷ 22 ∷ 23 ∷ 24 ∷ 25 ∷ 26 ∷ 27 ∷ 28 ∷ 29 ∷ 30 ∷ 31 ∷ 32 ∷ 33 ∷ []) $
           by ! (asks k (zs .1 .0) (is-k .1) long (omega (arith, p .0)) (put-asked a k (zs .1 .0) p)))))))))))))
 
-    walk : (𝓣 : Tables 𝓤 H) → Triple 𝓤 (𝓣 .C #parts·IndexRow·empty) (Empty 𝓤 H A mem′ run) → Triple 𝓤 (𝓣 .C #slices·fill) (Fill 𝓤 H A mem′ run) → Triple 𝓤 (𝓣 .C #slices·query) (Query 𝓤 H A mem′ run)
+    walk : (𝓣 : Tables 𝓤 H) → Triple 𝓤 (𝓣 .C #rows·Row·empty) (Empty 𝓤 H A mem′ run) → Triple 𝓤 (𝓣 .C #query-slice·fill) (Fill 𝓤 H A mem′ run) → Triple 𝓤 (𝓣 .C #query-slice·query) (Query 𝓤 H A mem′ run)
         → ent 𝓤 (onEntry 𝓤 H A ask.signature (κ, (κ₁, tt)) (q, (q₁, tt)) (x, (t1, (t2, (y γ l₀, tt)))) at) (WpFn 𝓤 H (𝓣 .C) (𝓣 .Λ) code.function (s ∷ time t1 ∷ time t2 ∷ so ∷ []) Post)
     walk 𝓣 k₁ k₂ k₃ =
         qed W ((‵ (flft κ q) ⊛ (‵ (flft κ₁ q₁) ⊛ ‵ ftrue)) ∷ ‵ (owns (ShrSlice (named 0) κ u8 ∷ E.the-row ∷ E.the-row ∷ MutSlice (named 1) κ₁ u32 ∷ []) (x, (t1, (t2, (y γ l₀, tt)))) at) ∷ []) ∵
@@ -386,7 +386,7 @@ module _ {M : Type 1} (𝓤 : URA M) (H : Heap 𝓤) (A : Atoms 𝓤) (W : Given
         by ! (begins 𝓣 k₁ k₂ k₃ l0 l1 l2 l3 l4 l5 l6 l7 l8 l9 l10 l11 l12 l13)))))))))))))))
 
 module _ {M : Type 1} (𝓤 : URA M) (H : Heap 𝓤) (A : Atoms 𝓤) (W : Given 𝓤 H A) (mem′ : Memory → SProp 𝓤) (run : Routine → Fun 𝓤) (𝓣 : Tables 𝓤 H)
-    (k₁ : Triple 𝓤 (𝓣 .C #parts·IndexRow·empty) (Empty 𝓤 H A mem′ run)) (k₂ : Triple 𝓤 (𝓣 .C #slices·fill) (Fill 𝓤 H A mem′ run)) (k₃ : Triple 𝓤 (𝓣 .C #slices·query) (Query 𝓤 H A mem′ run)) where
+    (k₁ : Triple 𝓤 (𝓣 .C #rows·Row·empty) (Empty 𝓤 H A mem′ run)) (k₂ : Triple 𝓤 (𝓣 .C #query-slice·fill) (Fill 𝓤 H A mem′ run)) (k₃ : Triple 𝓤 (𝓣 .C #query-slice·query) (Query 𝓤 H A mem′ run)) where
   walks : Walks 𝓤 H A ask.ended stayed (WpFn 𝓤 H (𝓣 .C) (𝓣 .Λ) code.function) (ask.clauses 𝓤 H A mem′ run)
   walks = walked 𝓤 H A ask.ended stayed (ask.clauses 𝓤 H A mem′ run) (WpFn 𝓤 H (𝓣 .C) (𝓣 .Λ) code.function)
       (λ κs. (slice-vals, (LL.vals E.the-type E′.the-laws, (LL.vals E.the-type E′.the-laws, (slice-vals, tt))))) (λ κs. (shr-slice-tells (named 0) (κs .0) u8, (LL.tells E.the-type E′.the-laws, (LL.tells E.the-type E′.the-laws, (mut-slice-tells (named 1) (κs .1 .0) u32, tt)))))
@@ -403,6 +403,6 @@ ask-spec 𝓤 H 𝓜 𝓖 𝓡 =
     entered 𝓤 H (tripleOf 𝓤 H (𝓖 .A) ask.signature (ask.spec 𝓤 H (𝓖 .A) (𝓜 .mem) (𝓡 .run)))
     (tables 𝓤 H 𝓜 𝓡 code.env .C) (tables 𝓤 H 𝓜 𝓡 code.env .Λ) #vectors·held·ask code.function (code.unfolded 𝓤 H 𝓜 𝓡)
     (meets 𝓤 H (𝓖 .A) (givenOf 𝓤 H 𝓜 𝓖) (𝓜 .mem) (𝓡 .run) (tablesOf 𝓤 H 𝓜 (tables 𝓤 H 𝓜 𝓡 code.env))
-    (cited 𝓤 H (Empty 𝓤 H (𝓖 .A) (𝓜 .mem) (𝓡 .run)) 𝓜 𝓡 code.env #parts·IndexRow·empty empty-def.routine code.calls-parts·IndexRow·empty (empty-thm.met 𝓤 H 𝓜 𝓖 𝓡))
-    (cited 𝓤 H (Fill 𝓤 H (𝓖 .A) (𝓜 .mem) (𝓡 .run)) 𝓜 𝓡 code.env #slices·fill fill-def.routine code.calls-slices·fill (fill-thm.met 𝓤 H 𝓜 𝓖 𝓡))
-    (cited 𝓤 H (Query 𝓤 H (𝓖 .A) (𝓜 .mem) (𝓡 .run)) 𝓜 𝓡 code.env #slices·query query-def.routine code.calls-slices·query (query-thm.met 𝓤 H 𝓜 𝓖 𝓡)))
+    (cited 𝓤 H (Empty 𝓤 H (𝓖 .A) (𝓜 .mem) (𝓡 .run)) 𝓜 𝓡 code.env #rows·Row·empty empty-def.routine code.calls-rows·Row·empty (empty-thm.met 𝓤 H 𝓜 𝓖 𝓡))
+    (cited 𝓤 H (Fill 𝓤 H (𝓖 .A) (𝓜 .mem) (𝓡 .run)) 𝓜 𝓡 code.env #query-slice·fill fill-def.routine code.calls-query-slice·fill (fill-thm.met 𝓤 H 𝓜 𝓖 𝓡))
+    (cited 𝓤 H (Query 𝓤 H (𝓖 .A) (𝓜 .mem) (𝓡 .run)) 𝓜 𝓡 code.env #query-slice·query query-def.routine code.calls-query-slice·query (query-thm.met 𝓤 H 𝓜 𝓖 𝓡)))
