@@ -1,7 +1,8 @@
 # make                     the library target/lib/libhplog.a and the command target/bin/hplog
 # make run                 the samples: listed, checked and recovered
 # make test                the whole gate
-# make bench               each call beside a peer, and its stack: docs/performance-table.md, and a plot in docs/performance.svg
+# make bench               each call beside a peer, and its stack: docs/performance-table.md, and a plot in
+#                          docs/performance.svg
 # make install PREFIX=..   command, header, library, hplog.pc and manual pages; DESTDIR=.. goes in front
 #
 # HPLOG_LIB=.. links the libhplog.a of that folder and builds none. LEVEL=x86-64 compiles the library for x86-64 alone,

@@ -27,7 +27,8 @@ bool arguments_time(const char *command, const char *text, uint64_t *time)
     return false;
 }
 
-/* Whether the word at *i is the option NAME VALUE or NAME=VALUE. *value is then its value, past which *i steps, or a null pointer with none. */
+/* Whether the word at *i is the option NAME VALUE or NAME=VALUE. *value is then its value, past which *i steps, or a
+ * null pointer with none. */
 static bool is_option(const char *name, char **words, int count, int *i, const char **value)
 {
     size_t length = strlen(name);
@@ -58,7 +59,7 @@ static bool take_option(arguments *parsed, char **words, int count, int *i, cons
         time = &parsed->to;
     if (value != NULL)
         return arguments_time(command, value, time);
-    arguments_wrong(command, time == NULL ? "no such option:" : "no time behind the option", word);
+    arguments_wrong(command, time == NULL ? "no such option:" : "no time after the option", word);
     return false;
 }
 

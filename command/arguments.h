@@ -15,7 +15,8 @@ typedef struct {
     uint64_t from, to;
 } arguments;
 
-/* Sorts the words behind a command into options and operands; the operands are moved to the front of words. On false a message has been printed. */
+/* Sorts the words after a command into options and operands; the operands are moved to the front of words. On false a
+ * message has been printed. */
 bool arguments_parse(arguments *parsed, char **words, int count, const char *command, unsigned options);
 
 /* Reads a time; on false a message has been printed. */

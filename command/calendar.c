@@ -47,8 +47,8 @@ static void date_of_days(uint64_t days, unsigned *year, unsigned *month, unsigne
     *year = (unsigned)(era * 400) + years + (*month <= 2);
 }
 
-/* Reads exactly so many digits and the byte behind them, and steps past both. */
-static bool take(const char **at, int digits, char behind, unsigned *value)
+/* Reads exactly so many digits and the byte after them, and steps past both. */
+static bool take(const char **at, int digits, char after, unsigned *value)
 {
     *value = 0;
     for (int i = 0; i < digits; i++, ++*at) {
@@ -56,7 +56,7 @@ static bool take(const char **at, int digits, char behind, unsigned *value)
             return false;
         *value = *value * 10 + (unsigned)(**at - '0');
     }
-    return *(*at)++ == behind;
+    return *(*at)++ == after;
 }
 
 /* Reads the end of a date: an optional point with one to nine digits, then Z. */
@@ -98,7 +98,7 @@ static bool parse_date(const char *text, uint64_t *time)
         return false;
     if (!take(&text, 2, ':', &hour) || !take(&text, 2, ':', &minute) || hour > 23 || minute > 59)
         return false;
-    /* The seconds have no fixed byte behind them, so the text is cut by hand. */
+    /* The seconds have no fixed byte after them, so the text is cut by hand. */
     if (!is_digit(text[0]) || !is_digit(text[1]) || !take_fraction(text + 2, &nanoseconds))
         return false;
     second = (unsigned)(text[0] - '0') * 10 + (unsigned)(text[1] - '0');
@@ -118,12 +118,12 @@ bool calendar_parse(const char *text, uint64_t *time)
     return parse_nanoseconds(text, time) || parse_date(text, time);
 }
 
-/* Writes so many decimal digits and the byte behind them; gives the next position back. */
-static char *put(char *at, uint64_t value, int digits, char behind)
+/* Writes so many decimal digits and the byte after them; gives the next position back. */
+static char *put(char *at, uint64_t value, int digits, char after)
 {
     for (int i = digits; i-- > 0; value /= 10)
         at[i] = (char)('0' + value % 10);
-    at[digits] = behind;
+    at[digits] = after;
     return at + digits + 1;
 }
 

@@ -22,14 +22,16 @@ static void print_frame(const opened *log)
 {
     char a[TEXT_NUMBER], b[TEXT_NUMBER], time[CALENDAR_TEXT];
     text_path(stdout, log->file.name);
-    printf(": whole, %s bytes, %s %s\n", text_number(log->file.length, a), text_number(log->count, b), log->count == 1 ? "block" : "blocks");
+    printf(": whole, %s bytes, %s %s\n", text_number(log->file.length, a), text_number(log->count, b),
+           log->count == 1 ? "block" : "blocks");
     if (log->count > 0) {
         calendar_format(log->frame.first, time);
         printf("first time  %s\n", time);
         calendar_format(log->frame.last, time);
         printf("last time   %s\n", time);
     }
-    printf("dictionary  byte %s, stored %s\n", text_number(log->frame.dictionary, a), text_number(log->frame.stored, b));
+    printf("dictionary  byte %s, stored %s\n", text_number(log->frame.dictionary, a),
+           text_number(log->frame.stored, b));
     printf("index       byte %s\n", text_number(log->frame.index, a));
 }
 

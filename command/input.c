@@ -14,7 +14,8 @@
 
 static const uint8_t no_bytes[1];
 
-/* Maps a regular file that is read from its front. Others, such as pipes and the files of /proc, say nothing of their length. */
+/* Maps a regular file that is read from its front. Others, such as pipes and the files of /proc, say nothing of their
+ * length. */
 static bool map(input *file, int descriptor)
 {
     if (!S_ISREG(file->status.st_mode) || file->status.st_size <= 0 || lseek(descriptor, 0, SEEK_CUR) != 0)

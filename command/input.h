@@ -15,7 +15,8 @@ typedef struct {
     bool is_mapped;
 } input;
 
-/* Maps a file, or reads what cannot be mapped; "-" is standard input. On false a message has been printed and there is nothing to close. */
+/* Maps a file, or reads what cannot be mapped; "-" is standard input. On false a message has been printed and there is
+ * nothing to close. */
 bool input_open(input *file, const char *path);
 
 /* The same of two files, the paths of which stand side by side. */

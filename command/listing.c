@@ -73,8 +73,8 @@ void listing_print(listing *list)
     uint64_t done = 0, count;
     progress_begin("listing");
     do {
-        hplog_listed listed =
-            hplog_list_next(list->log.bytes, list->log.length, list->book.bytes, list->book.length, list->next, piece, sizeof piece);
+        hplog_listed listed = hplog_list_next(list->log.bytes, list->log.length, list->book.bytes, list->book.length,
+                                              list->next, piece, sizeof piece);
         list->next = listed.next;
         count = listed.answer.count;
         done += count;

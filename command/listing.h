@@ -12,8 +12,8 @@ typedef struct {
     hplog_listing next;
 } listing;
 
-/* Opens the log and the book at two paths and checks them whole; gives the exit status back. Where they are not accepted a message has been printed
- * and there is nothing to close. */
+/* Opens the log and the book at two paths and checks them whole; gives the exit status back. Where they are not
+ * accepted a message has been printed and there is nothing to close. */
 int listing_open(listing *list, char *const *paths);
 
 /* The same for the entries of a range of times alone, of which the first is not above the second. */

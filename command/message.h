@@ -11,7 +11,8 @@ int message_error(const char *name);
 /* "hplog: NAME: " and the words given; gives the exit status back. */
 int message_fault(const char *name, const char *words);
 
-/* Starts the line of a refusal: "hplog: refused NUMBER PLACE: NAME: ". The words and the end of the line are the caller's. */
+/* Starts the line of a refusal: "hplog: refused NUMBER PLACE: NAME: ". The words and the end of the line are the
+ * caller's. */
 void message_refused(uint64_t number, uint64_t place, const char *name);
 
 #endif

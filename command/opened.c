@@ -23,7 +23,13 @@ static int check(opened *log)
     if (answer.number != 0)
         return words_refused_log(&log->file, answer.number, answer.place);
     log->count = (size_t)answer.count;
-    log->frame = (opened_frame){bytes_u64(frame), bytes_u64(frame + 8), bytes_u64(frame + 16), bytes_u64(frame + 24), bytes_u64(frame + 32)};
+    log->frame = (opened_frame){
+        .dictionary = bytes_u64(frame),
+        .stored = bytes_u64(frame + 8),
+        .index = bytes_u64(frame + 16),
+        .first = bytes_u64(frame + 24),
+        .last = bytes_u64(frame + 32),
+    };
     return STATUS_ACCEPTED;
 }
 

@@ -19,7 +19,8 @@ typedef struct {
     opened_frame frame;
 } opened;
 
-/* Opens the log at a path; gives the exit status back. Where it is not accepted a message has been printed and there is nothing to close. */
+/* Opens the log at a path; gives the exit status back. Where it is not accepted a message has been printed and there is
+ * nothing to close. */
 int opened_open(opened *log, const char *path);
 
 void opened_close(opened *log);

@@ -17,7 +17,8 @@ typedef struct {
 
 static void print_plain(const input *log, const uint8_t *rows, size_t count, const report *found)
 {
-    printf("file %zu %zu %llu %llu\n", log->length, count, (unsigned long long)found->end, (unsigned long long)found->is_dictionary);
+    printf("file %zu %zu %llu %llu\n", log->length, count, (unsigned long long)found->end,
+           (unsigned long long)found->is_dictionary);
     blocks_print(log, rows, NULL, count, true);
     printf("stop %llu %llu\n", (unsigned long long)found->number, (unsigned long long)found->place);
 }
@@ -26,7 +27,8 @@ static void print_table(const input *log, const uint8_t *rows, size_t count, con
 {
     char a[TEXT_NUMBER], b[TEXT_NUMBER];
     text_path(stdout, log->name);
-    printf(": %s whole %s up to byte %s", text_number(count, a), count == 1 ? "block" : "blocks", text_number(found->end, b));
+    printf(": %s whole %s up to byte %s", text_number(count, a), count == 1 ? "block" : "blocks",
+           text_number(found->end, b));
     printf(" of %s\n", text_number(log->length, a));
     printf("dictionary  %s\n", found->is_dictionary ? "whole" : "none that is whole");
     fputs("stopped     ", stdout);

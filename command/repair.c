@@ -30,7 +30,8 @@ static void print_file(const store *out, bool is_plain)
         return;
     }
     text_path(stdout, out->path);
-    printf(": written, %s bytes, %s %s\n", text_number(out->length, a), text_number(blocks, b), blocks == 1 ? "block" : "blocks");
+    printf(": written, %s bytes, %s %s\n", text_number(out->length, a), text_number(blocks, b),
+           blocks == 1 ? "block" : "blocks");
 }
 
 /* The new file is made only once the call has said how long it is, so a refusal makes none. */
@@ -39,7 +40,8 @@ static int repair_into(const input *log, const input *dictionary, store *out, bo
     uint8_t none[1];
     hplog_answer answer = repair(log, dictionary, none, 0);
     if (answer.number == 6 && answer.place == dictionary->length && dictionary->length > UINT32_MAX)
-        return words_refused(dictionary->name, answer.number, answer.place, "the dictionary is longer than 32 bits count, %s bytes");
+        return words_refused(dictionary->name, answer.number, answer.place,
+                             "the dictionary is longer than 32 bits count, %s bytes");
     if (answer.number != 12)
         return words_refused_log(log, answer.number, answer.place);
     mode_t mode = S_ISREG(log->status.st_mode) ? log->status.st_mode & 0666 : 0666;

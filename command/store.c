@@ -67,7 +67,8 @@ bool store_open(store *file, const char *path, bool is_forced, const struct stat
     return false;
 }
 
-/* A file without a name goes away with the program, whatever ends it; -1 where there can be none. It is named later by its entry in /proc. */
+/* A file without a name goes away with the program, whatever ends it; -1 where there can be none. It is named later by
+ * its entry in /proc. */
 static int open_unnamed(const store *file)
 {
     if (access("/proc/self/fd", X_OK) != 0)

@@ -18,12 +18,13 @@ typedef struct {
     size_t length;
 } store;
 
-/* Opens the folder of a path. Fails where something stands there that must not be replaced: anything but a regular file, and without is_forced that
- * too; a file whose status is one of the count given, never. On false a message has been printed and there is nothing to close. */
+/* Opens the folder of a path. Fails where something stands there that must not be replaced: anything but a regular
+ * file, and without is_forced that too; a file whose status is one of the count given, never. On false a message has
+ * been printed and there is nothing to close. */
 bool store_open(store *file, const char *path, bool is_forced, const struct stat *const *kept, size_t count);
 
-/* Makes a file of this length in the folder, for its bytes to be written: without a name, or with a temporary one where the file system has no such
- * files. On false a message has been printed. */
+/* Makes a file of this length in the folder, for its bytes to be written: without a name, or with a temporary one where
+ * the file system has no such files. On false a message has been printed. */
 bool store_create(store *file, size_t length, mode_t mode);
 
 /* Syncs the file, gives it its name and syncs the folder. On false a message has been printed. */

@@ -65,7 +65,8 @@ static const char *layout_words(const input *log, uint64_t place)
     if (dictionary == 0)
         return NULL;
     if (place == dictionary)
-        return is_dictionary_whole(log, place) ? "the header counts more blocks than there are" : "the dictionary is empty or cut";
+        return is_dictionary_whole(log, place) ? "the header counts more blocks than there are"
+                                               : "the dictionary is empty or cut";
     if (place == log->length)
         return "index and footer do not end the file where they should";
     return place == log->length - FOOTER_SIZE + FOOTER_INDEX ? "the footer gives a wrong place of the index" : NULL;

@@ -7,7 +7,8 @@
 #include <stdint.h>
 #include <stdio.h>
 
-/* Prints what is wrong with a log, by the number and place that opening, recovery or repair gave; ends in ", byte PLACE". */
+/* Prints what is wrong with a log, by the number and place that opening, recovery or repair gave; ends in
+ * ", byte PLACE". */
 void words_log(FILE *to, const input *log, uint64_t number, uint64_t place);
 
 /* Prints the whole line of a refusal of a log; gives the exit status back. */

@@ -19,7 +19,11 @@ fn installed(header: &str) -> bool {
     let probe = format!("#include <stddef.h>\n#include <{header}>\n");
     let file = format!("{}/probe.c", std::env::var("OUT_DIR").expect("cargo says where"));
     std::fs::write(&file, probe).expect("room for a line");
-    Command::new("gcc").args(["-fsyntax-only", &file]).stderr(std::process::Stdio::null()).status().is_ok_and(|s| s.success())
+    Command::new("gcc")
+        .args(["-fsyntax-only", &file])
+        .stderr(std::process::Stdio::null())
+        .status()
+        .is_ok_and(|s| s.success())
 }
 
 fn main() {

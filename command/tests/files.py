@@ -6,7 +6,8 @@ import re
 import signal
 import threading
 
-from logs import AT, BLOCKS, BOOK, D, DICTIONARY, INDEX, NAMES, SAMPLES, UNCLOSED, WHOLE, entry_lines, maker, plain_lines, write_long_text
+from logs import AT, BLOCKS, BOOK, D, DICTIONARY, INDEX, NAMES, SAMPLES, UNCLOSED, WHOLE
+from logs import entry_lines, maker, plain_lines, write_long_text
 
 # A log without blocks.
 EMPTY = maker.header(64, 0, 0, 0) + WHOLE[D:INDEX] + b"HPLG_IDX" + bytes(8) + b"HPLG_END" + bytes([134]) + bytes(15)
@@ -33,7 +34,8 @@ def samples(suite):
     maker.FOLDER = made
     maker.main()
     for path in sorted(made.iterdir()):
-        suite.holds(f"samples/{path.name} is what samples/make writes", (SAMPLES / path.name).read_bytes() == path.read_bytes())
+        same = (SAMPLES / path.name).read_bytes() == path.read_bytes()
+        suite.holds(f"samples/{path.name} is what samples/make writes", same)
     listing = b'blocks 1 entries 2\n1000 wet=i:-42\n1005 site=s:"B7" wet=n\n'
     suite.expect(["cat", str(SAMPLES / "small.hplog"), str(SAMPLES / "small.plb")], out=listing)
 
@@ -48,7 +50,8 @@ def checks(suite):
     suite.expect(["check", log], out=(text + table(range(8))).encode())
     empty = suite.path("none.hplog", EMPTY)
     suite.expect(["check", "--plain", empty], out=b"file 174 0 0 0 64 66 134\n")
-    suite.expect(["check", empty], out=f"{empty}: whole, 174 bytes, 0 blocks\ndictionary  byte 64, stored 66\nindex       byte 134\n".encode())
+    text = f"{empty}: whole, 174 bytes, 0 blocks\ndictionary  byte 64, stored 66\nindex       byte 134\n"
+    suite.expect(["check", empty], out=text.encode())
 
 
 def queries(suite):
@@ -68,7 +71,8 @@ def recoveries(suite):
     text += f"stopped     stored bytes cut in block 5, byte {AT[5] + 24:,}\n"
     suite.expect(["recover", cut], out=(text + table(range(5))).encode())
     whole = suite.path("whole.hplog", WHOLE)
-    text = f"{whole}: 8 whole blocks up to byte {D:,} of {len(WHOLE):,}\ndictionary  whole\nstopped     at the end of the blocks\n"
+    text = f"{whole}: 8 whole blocks up to byte {D:,} of {len(WHOLE):,}\ndictionary  whole\n"
+    text += "stopped     at the end of the blocks\n"
     suite.expect(["recover", whole], out=(text + table(range(8))).encode())
     for length in range(AT[1], AT[2] + 1, 7):
         cut = suite.path("cut.hplog", UNCLOSED[:length])
@@ -89,17 +93,20 @@ def listings(suite):
         kept = "".join(line for time, line in lines if t1 <= time <= t2)
         suite.expect(["read", log, book, "--from", str(t1), f"--to={t2}"], out=kept.encode())
     last = BLOCKS[7][0] + 20 * maker.SECOND
-    suite.expect(["read", "--from", date(230, 0), log, book], out="".join(line for time, line in lines if time >= last).encode())
+    kept = "".join(line for time, line in lines if time >= last)
+    suite.expect(["read", "--from", date(230, 0), log, book], out=kept.encode())
     suite.refused(["read", log, book, "--from", "9", "--to", "8"], 13, 9, "times", "the first time is above the second")
 
 
 def borders(suite):
     """Blocks that meet in a time, one of a single time, and a gap; each range of times is what cat lists of it."""
     deltas = [(0, 4), (0,), (0, 0, 3), (0, 5)]
-    plains = [b"".join(maker.entry(delta, [("wind", number)]) for delta in block) for number, block in enumerate(deltas)]
     starts = [100, 104, 104, 110]
-    lines = [(start + delta, f"{start + delta} wind=i:{number}\n") for number, start in enumerate(starts) for delta in deltas[number]]
-    blocks = [(start, start + block[-1], len(block), plain, b"z") for start, block, plain in zip(starts, deltas, plains)]
+    plains, lines, blocks = [], [], []
+    for number, (start, block) in enumerate(zip(starts, deltas)):
+        plains.append(b"".join(maker.entry(delta, [("wind", number)]) for delta in block))
+        lines += [(start + delta, f"{start + delta} wind=i:{number}\n") for delta in block]
+        blocks.append((start, start + block[-1], len(block), plains[number], b"z"))
     log = suite.path("borders.hplog", maker.finished(blocks, b"z")[0])
     book = suite.path("borders.plb", maker.book(plains, NAMES))
     times = [99, 100, 103, 104, 105, 107, 108, 110, 115, 116]
@@ -129,10 +136,11 @@ def last_times(suite):
 def long_lines(suite):
     """Lines that are longer than any buffer, and times that pieces of the listing may divide."""
     text = "x\\\"\n" * 60_000
-    plains = [maker.entry(0, [("note", text)]) + maker.entry(3, []) + b"".join(maker.entry(5 + k, [("wind", k)]) for k in range(20_000))]
+    plain = maker.entry(0, [("note", text)]) + maker.entry(3, [])
+    plain += b"".join(maker.entry(5 + k, [("wind", k)]) for k in range(20_000))
     end = 10**18 + 5 + 19_999
-    log = suite.path("long.hplog", maker.finished([(10**18, end, 20_002, plains[0], b"z")], b"z")[0])
-    book = suite.path("long.plb", maker.book(plains, maker.names(maker.NAMES)))
+    log = suite.path("long.hplog", maker.finished([(10**18, end, 20_002, plain, b"z")], b"z")[0])
+    book = suite.path("long.plb", maker.book([plain], maker.names(maker.NAMES)))
     first = f'{10**18} note=s:"' + "x\\x5C\\x22\\x0A" * 60_000 + '"\n'
     rest = [f"{10**18 + 3}\n"] + [f"{10**18 + 5 + k} wind=i:{k}\n" for k in range(20_000)]
     suite.expect(["cat", log, book], out=f"blocks 1 entries 20002\n{first}{''.join(rest)}".encode())
@@ -150,7 +158,8 @@ def names(suite):
     odd = suite.path("odd.plb", maker.book([b"any"], maker.names(["", "a b=\"\\", "h\u00f6he\x1b\x07", "\u009b"])))
     lines = ["name 0 ", "name 1 a\\x20b\\x3D\\x22\\x5C", "name 2 h\\xC3\\xB6he\\x1B\\x07", "name 3 \\xC2\\x9B", ""]
     suite.expect(["names", "--plain", odd], out="\n".join([f"book 4 {odd}", *lines]).encode())
-    suite.expect(["names", odd], out=f"{odd}: 4 names\n    0  \n    1  a b=\"\\x5C\n    2  h\u00f6he\\x1B\\x07\n    3  \\xC2\\x9B\n".encode())
+    shown = f"{odd}: 4 names\n    0  \n    1  a b=\"\\x5C\n    2  h\u00f6he\\x1B\\x07\n    3  \\xC2\\x9B\n"
+    suite.expect(["names", odd], out=shown.encode())
     alone = suite.path("alone.plb", maker.book([], maker.names(["site"])))
     suite.expect(["names", "--plain", alone], out=f"book 1 {alone}\nname 0 site\n".encode())
     missing = suite.path("missing.plb")
@@ -209,11 +218,12 @@ def inputs(suite):
     suite.wrong(["query", missing, "0", "1"])
     with open("/dev/full", "wb") as full:
         process = suite.run_to(full, "cat", log, book)
-        suite.holds("a full device", process == (2, b"hplog: standard output: No space left on device\n"), repr(process))
+        line = b"hplog: standard output: No space left on device\n"
+        suite.holds("a full device", process == (2, line), repr(process))
 
 
 def closed_pipe(suite):
-    """A reader that goes away ends the command by the signal that says so, or by an error where that signal is ignored."""
+    """A reader that goes away ends the command by the signal that says so, or, where that is ignored, by an error."""
     log, book = suite.path("pipe.hplog"), suite.path("pipe.plb")
     write_long_text(log, book, 1 << 20)
     for ignore, wanted in ((False, (-signal.SIGPIPE, b"")), (True, (2, b"hplog: standard output: Broken pipe\n"))):
@@ -228,11 +238,13 @@ def closed_pipe(suite):
 def closed_streams(suite):
     """A stream that is closed is an error where it is needed, and no file takes its place."""
     log = suite.path("closed.hplog", WHOLE)
-    suite.expect(["check", log], 2, err=b"hplog: standard output: Bad file descriptor\n", preexec_fn=lambda: os.close(1))
-    suite.expect(["check", "-"], 2, err=b"hplog: standard input: Bad file descriptor\n", preexec_fn=lambda: os.close(0))
+    for words, number, name in ((["check", log], 1, b"output"), (["check", "-"], 0, b"input")):
+        line = b"hplog: standard %s: Bad file descriptor\n" % name
+        suite.expect(words, 2, err=line, preexec_fn=lambda number=number: os.close(number))
     out = suite.path("closed.out")
     suite.expect(["repair", log, "/dev/null", out], 2, preexec_fn=lambda: [os.close(number) for number in range(3)])
     suite.holds("the file has no message in it", (suite.folder / "closed.out").read_bytes() == WHOLE)
 
 
-GROUPS = [samples, checks, queries, recoveries, listings, borders, last_times, long_lines, names, labels, inputs, closed_pipe, closed_streams]
+GROUPS = [samples, checks, queries, recoveries, listings, borders, last_times, long_lines, names, labels, inputs]
+GROUPS += [closed_pipe, closed_streams]

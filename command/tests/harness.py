@@ -74,12 +74,13 @@ class Suite:
 
     def start(self, *words, **keywords):
         environment = {**os.environ, "LC_ALL": "C", **keywords.pop("env", {})}
-        return subprocess.Popen([*self.command, *words], stdout=subprocess.PIPE, stderr=subprocess.PIPE, env=environment, **keywords)
+        streams = {"stdout": subprocess.PIPE, "stderr": subprocess.PIPE}
+        return subprocess.Popen([*self.command, *words], **streams, env=environment, **keywords)
 
     def run(self, *words, stdin=b"", **keywords):
-        source = {"stdin": subprocess.PIPE, "input": stdin} if isinstance(stdin, bytes) else {"stdin": stdin, "input": None}
-        process = self.start(*words, stdin=source["stdin"], **keywords)
-        out, err = process.communicate(source["input"], timeout=LIMIT)
+        source, sent = (subprocess.PIPE, stdin) if isinstance(stdin, bytes) else (stdin, None)
+        process = self.start(*words, stdin=source, **keywords)
+        out, err = process.communicate(sent, timeout=LIMIT)
         return Result(process.returncode, out, err)
 
     def run_to(self, out, *words):
@@ -103,7 +104,8 @@ class Suite:
         self.holds(f"{what}: status", result.status == status, f"{result.status}, not {status}: {result.err!r}")
         for name, got, wanted in (("out", result.out, out), ("err", result.err, err)):
             if isinstance(wanted, re.Pattern):
-                self.holds(f"{what}: {name}", wanted.fullmatch(got) is not None, f"{got!r} is not like {wanted.pattern!r}")
+                shown = f"{got!r} is not like {wanted.pattern!r}"
+                self.holds(f"{what}: {name}", wanted.fullmatch(got) is not None, shown)
             else:
                 self.holds(f"{what}: {name}", got == wanted, f"{got!r}, not {wanted!r}")
         return result
@@ -118,7 +120,7 @@ class Suite:
         return self.expect(words, 2, b"", re.compile(rb"hplog[^\n]*\n"), **keywords)
 
     def start_on_terminal(self, *words, env=None, **streams):
-        """Starts the command with the streams that are not given on a terminal; gives the process and the terminal back."""
+        """Starts the command with the streams that are not given on a terminal; gives process and terminal back."""
         master, slave = pty.openpty()
         environment = {**os.environ, "TERM": "xterm", "LC_ALL": "C", **(env or {})}
         streams = {name: slave if stream is None else stream for name, stream in {**ON_TERMINAL, **streams}.items()}

@@ -10,14 +10,16 @@ from logs import UNCLOSED, WHOLE, maker, write_long_text, write_zeros
 
 GIB = 1 << 30
 
-# A file of a GiB of holes is answered from its front, and blocks outside a range are not listed; either would take longer.
+# A file of a GiB of holes is answered from its front, and blocks outside a range are not listed; either would take
+# longer.
 QUICK = 5
 
 
 def timed(suite, words, status, out, err):
     start = time.monotonic()
     suite.expect(words, status, out, err)
-    suite.holds(f"{words[0]} of a GiB answers quickly", time.monotonic() - start < QUICK, f"{time.monotonic() - start:.1f} s")
+    taken = time.monotonic() - start
+    suite.holds(f"{words[0]} of a GiB answers quickly", taken < QUICK, f"{taken:.1f} s")
 
 
 def sparse(suite):
@@ -30,8 +32,8 @@ def sparse(suite):
     with open(zeros, "r+b") as file:
         file.write(maker.header(0, 0, 0, 0))
     timed(suite, ["recover", "--plain", zeros], 0, f"file {GIB} 0 64 0\nstop 7 84\n".encode(), b"")
-    closed = f"hplog: refused 5 10: {zeros}: the file was not closed (hplog recover shows its whole blocks), byte 10\n".encode()
-    timed(suite, ["check", zeros], 1, b"", closed)
+    words = "the file was not closed (hplog recover shows its whole blocks), byte 10"
+    timed(suite, ["check", zeros], 1, b"", f"hplog: refused 5 10: {zeros}: {words}\n".encode())
 
 
 def skipped(suite):
@@ -85,11 +87,13 @@ def forbidden(suite):
     os.chmod(log, 0)
     locked.mkdir(0o500)
     line = f"hplog: {log}: Permission denied\n".encode()
-    for words in (["check", log], ["query", log, "0", "1"], ["recover", log], ["cat", good, log], ["names", log], ["repair", good, log, "new"]):
+    commands = [["check", log], ["query", log, "0", "1"], ["recover", log], ["cat", good, log], ["names", log]]
+    for words in [*commands, ["repair", good, log, "new"]]:
         suite.expect(words, 2, err=line, preexec_fn=without_override, cwd=suite.folder)
     line = f"hplog: {locked}/new: Permission denied\n".encode()
     suite.expect(["repair", good, good, str(locked / "new")], 2, err=line, preexec_fn=without_override)
-    suite.holds("nothing is written", sorted(os.listdir(suite.folder)) == ["closed.hplog", "cut.hplog", "locked"] and os.listdir(locked) == [])
+    names = sorted(os.listdir(suite.folder)), os.listdir(locked)
+    suite.holds("nothing is written", names == (["closed.hplog", "cut.hplog", "locked"], []), str(names))
 
 
 GROUPS = [sparse, skipped, memory, shortened, forbidden]

@@ -25,7 +25,7 @@ PLAINS = [block[3] for block in BLOCKS]
 NAMES = maker.names(maker.NAMES)
 BOOK = maker.book(PLAINS, NAMES)
 
-# Where the blocks' headers stand, and behind the last one the dictionary, the index and the footer.
+# Where the blocks' headers stand, and after the last one the dictionary, the index and the footer.
 AT = [64 + sum(36 + len(block[4]) for block in BLOCKS[:number]) for number in range(len(BLOCKS) + 1)]
 D = AT[-1]
 INDEX = D + 4 + len(DICTIONARY)
@@ -34,7 +34,8 @@ ROWS = INDEX + 16
 
 
 def patched(content, at, *values):
-    """The content with bytes replaced from an offset on; a value is bytes, or a pair of a struct format and a number."""
+    """The content with bytes replaced from an offset on; a value is bytes, or a pair of a struct format and a
+    number."""
     for value in values:
         new = value if isinstance(value, bytes) else struct.pack("<" + value[0], value[1])
         content = content[:at] + new + content[at + len(new) :]
@@ -111,8 +112,9 @@ def write_zeros(path, blocks, size):
 
 
 def write_long_text(log, book, size, plains=()):
-    """A log and its sparse book: blocks of these plain bytes, each one entry at 1001, 1002 and so on; before and behind them a block of an entry with
-    a text of so many zero bytes, at 1000 and as the last one, and of an entry without fields a nanosecond later."""
+    """A log and its sparse book: blocks of these plain bytes, each one entry at 1001, 1002 and so on; before and after
+    them a block of an entry with a text of so many zero bytes, at 1000 and as the last one, and of an entry without
+    fields a nanosecond later."""
     front, last = maker.varint(0) + bytes([1]) + struct.pack("<HB", 0, 0) + maker.varint(size), maker.entry(1, [])
     long = range(len(front) + size + len(last))  # a log has no more of it than its length
     parts = [long, *plains, long]

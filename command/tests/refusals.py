@@ -6,7 +6,7 @@ from logs import AT, BLOCKS, BOOK, D, FOOTER, INDEX, NAMES, PLAINS, ROWS, UNCLOS
 
 
 def reframed(count):
-    """The sample with another count of blocks in header and index, and as many rows; those past the sample's are zero."""
+    """The sample with another count of blocks in header and index, and as many rows; those past its own are zero."""
     rows = (WHOLE[ROWS:FOOTER] + bytes(28))[: 28 * count]
     tail = b"HPLG_IDX" + struct.pack("<Q", count) + rows + WHOLE[FOOTER:]
     return patched(WHOLE[:INDEX], 18, ("Q", count)) + tail
@@ -33,9 +33,11 @@ def frame_faults():
     yield WHOLE + b"x", 6, len(WHOLE) + 1, f"{end}, byte {len(WHOLE) + 1:,}"
     yield WHOLE[:-1], 6, len(WHOLE) - 1, f"{end}, byte {len(WHOLE) - 1:,}"
     yield patched(WHOLE, INDEX, b"h"), 2, INDEX, f"the index's mark is wrong, byte {INDEX:,}"
-    yield patched(WHOLE, INDEX + 8, ("Q", 7)), 9, INDEX + 8, f"the index counts other blocks than the header, byte {INDEX + 8:,}"
+    other = "the index counts other blocks than the header"
+    yield patched(WHOLE, INDEX + 8, ("Q", 7)), 9, INDEX + 8, f"{other}, byte {INDEX + 8:,}"
     yield patched(WHOLE, FOOTER, b"h"), 2, FOOTER, f"the footer's mark is wrong, byte {FOOTER:,}"
-    yield patched(WHOLE, FOOTER + 8, ("Q", 1)), 6, FOOTER + 8, f"the footer gives a wrong place of the index, byte {FOOTER + 8:,}"
+    wrong = "the footer gives a wrong place of the index"
+    yield patched(WHOLE, FOOTER + 8, ("Q", 1)), 6, FOOTER + 8, f"{wrong}, byte {FOOTER + 8:,}"
     for at in (FOOTER + 16, FOOTER + 20):
         yield patched(WHOLE, at, b"\1"), 4, at, f"a reserved field is not zero, byte {at:,}"
     yield reframed(7), 6, AT[7], f"the dictionary does not follow the last block, byte {AT[7]:,}"
@@ -48,7 +50,8 @@ def block_faults():
     for k in (0, 3, 7):
         at, (start, end) = AT[k], BLOCKS[k][:2]
         yield patched(WHOLE, at, ("I", k + 1)), 7, at, f"wrong number in block {k}, byte {at:,}"
-        yield patched(WHOLE, at + 12, ("Q", start - 1)), 7, at + 12, f"end below the start in block {k}, byte {at + 12:,}"
+        below = f"end below the start in block {k}"
+        yield patched(WHOLE, at + 12, ("Q", start - 1)), 7, at + 12, f"{below}, byte {at + 12:,}"
         yield patched(WHOLE, at + 20, ("I", 0)), 7, at + 20, f"no entries in block {k}, byte {at + 20:,}"
         yield patched(WHOLE, at + 24, ("I", 2**32 - 1)), 6, at + 24, f"stored bytes cut in block {k}, byte {at + 24:,}"
         yield patched(WHOLE, AT[k + 1] - 1, b"!"), 8, at + 32, f"checksum differs in block {k}, byte {at + 32:,}"
@@ -97,6 +100,7 @@ def books(suite):
     last = end - len(NAMES) - 4
     part = "a part of the plain book is missing, cut or left over"
     mark, version = "not a plain book, its mark is wrong, byte 0", "the plain book's version is not 1, byte 3"
+    wrong, sixth = "the plain dictionary is wrong", len(NAMES) - 10
     for content, number, place, text in [
         (b"", 2, 0, mark),
         (patched(BOOK, 2, b"b"), 2, 0, mark),
@@ -106,8 +110,8 @@ def books(suite):
         (patched(BOOK, 5, ("I", end)), 6, 5, f"{part}, byte 5"),
         (BOOK[:-1], 6, last, f"{part}, byte {last:,}"),
         (BOOK + b"123", 6, end, f"{part}, byte {end:,}"),
-        (patched(BOOK, last + 4, ("I", 5)), 10, len(NAMES) - 10, f"the plain dictionary is wrong, byte {len(NAMES) - 10} of it"),
-        (patched(BOOK, last + 12, b"\xff"), 10, 8, "the plain dictionary is wrong, byte 8 of it"),
+        (patched(BOOK, last + 4, ("I", 5)), 10, sixth, f"{wrong}, byte {sixth} of it"),
+        (patched(BOOK, last + 12, b"\xff"), 10, 8, f"{wrong}, byte 8 of it"),
     ]:
         book = suite.path("bad.plb", content)
         suite.refused(["cat", log, book], number, place, book, text)
@@ -153,14 +157,16 @@ def falling(suite):
 
 def texts(suite):
     """Texts beside RFC 3629's table: overlong forms, a surrogate, numbers above 10FFFF; as name, string and JSON."""
-    for text in (b"\xc0\x80", b"\xc1\xbf", b"\xe0\x9f\xbf", b"\xed\xa0\x80", b"\xf0\x8f\xbf\xbf", b"\xf4\x90\x80\x80", b"\xf5\x80\x80\x80"):
+    short, long = ["C080", "C1BF", "E09FBF", "EDA080"], ["F08FBFBF", "F4908080", "F5808080"]
+    for text in map(bytes.fromhex, short + long):
         book = suite.path("name.plb", maker.book([], struct.pack("<IHH", 1, 0, len(text)) + text))
         suite.refused(["names", book], 10, 8, book, "the plain dictionary is wrong, byte 8 of it")
         for kind in (0, 5):
             plain = struct.pack("<BBHBB", 0, 1, 0, kind, len(text)) + text
             log = suite.path("text.hplog", maker.finished([(100, 100, 1, plain, b"x")], b"x")[0])
             book = suite.path("text.plb", maker.book([plain], maker.names(["a"])))
-            suite.refused(["cat", log, book], 11, 2, book, "plain entries are wrong in block 0, byte 2 of its plain bytes")
+            words = "plain entries are wrong in block 0, byte 2 of its plain bytes"
+            suite.refused(["cat", log, book], 11, 2, book, words)
 
 
 GROUPS = [opened, recovered, stops, books, entries, disagreeing, falling, texts]

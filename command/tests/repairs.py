@@ -28,8 +28,9 @@ def written(suite):
     expected = maker.finished(BLOCKS[:5], DICTIONARY)[0]
     out = str(folder / "a")
     suite.expect(["repair", cut, dictionary, out], out=f"{out}: written, {len(expected):,} bytes, 5 blocks\n".encode())
-    suite.expect(["repair", "--plain", "-", dictionary, str(folder / "b")], out=f"file {len(expected)} 5\n".encode(), stdin=UNCLOSED[: AT[5] + 100])
-    suite.expect(["repair", "--plain", cut, "-", "c"], out=f"file {len(expected)} 5\n".encode(), stdin=DICTIONARY, cwd=folder)
+    plain = f"file {len(expected)} 5\n".encode()
+    suite.expect(["repair", "--plain", "-", dictionary, "b"], out=plain, stdin=UNCLOSED[: AT[5] + 100], cwd=folder)
+    suite.expect(["repair", "--plain", cut, "-", "c"], out=plain, stdin=DICTIONARY, cwd=folder)
     suite.holds("each is the finished file", contents(folder) == {name: expected for name in "abc"})
     suite.holds("the damaged file is as it was", (suite.folder / "cut.hplog").read_bytes() == UNCLOSED[: AT[5] + 100])
     lost = suite.path("lost.hplog", WHOLE[:-1])
@@ -52,8 +53,10 @@ def refusals(suite):
     for out in (str(folder / "new"), str(old)):
         text = f"no dictionary is given and the file has none that is whole, byte {AT[5]:,}"
         suite.refused(["repair", "--force", cut, "/dev/null", out], 16, AT[5], cut, text)
-        suite.refused(["repair", "-f", bad, "/dev/null", out], 8, AT[3] + 32, bad, f"checksum differs in block 3, byte {AT[3] + 32:,}")
-        suite.refused(["repair", "-f", count, "/dev/null", out], 9, 18, count, "the header's block count is wrong, byte 18")
+        text = f"checksum differs in block 3, byte {AT[3] + 32:,}"
+        suite.refused(["repair", "-f", bad, "/dev/null", out], 8, AT[3] + 32, bad, text)
+        text = "the header's block count is wrong, byte 18"
+        suite.refused(["repair", "-f", count, "/dev/null", out], 9, 18, count, text)
     long = suite.path("long.dictionary")
     with open(long, "wb") as file:
         file.truncate(1 << 32)
@@ -121,7 +124,8 @@ def is_made(process, folder):
 
 
 def disturbed(suite, folder, big, disturb, **keywords):
-    """Repairs a large file and disturbs the command once its new file is there; again where the command was done before that."""
+    """Repairs a large file and disturbs the command once its new file is there; again where the command was done before
+    that."""
     words = ["repair", big, suite.path("dictionary", DICTIONARY), str(folder / "new")]
     for _ in range(5):
         write_zeros(big, 1, SPARSE)
@@ -139,7 +143,11 @@ def disturbed(suite, folder, big, disturb, **keywords):
 
 def ended_by(suite, folder, signals, **keywords):
     for number in signals:
-        ended = disturbed(suite, folder, suite.path("big.hplog"), lambda process, number=number: process.send_signal(number), **keywords)
+
+        def end(process, number=number):
+            process.send_signal(number)
+
+        ended = disturbed(suite, folder, suite.path("big.hplog"), end, **keywords)
         suite.holds(f"{number.name} ends the command", ended == (-number, b""), repr(ended))
         suite.holds(f"{number.name} leaves nothing", os.listdir(folder) == [], str(os.listdir(folder)))
 
@@ -183,14 +191,16 @@ int openat(int folder, const char *path, int flags, ...)
 
 
 def named(suite):
-    """The new file has a temporary name where the file system has no files without one; each signal that can be handled removes it."""
+    """The new file has a temporary name where the file system has no files without one; each signal that can be handled
+    removes it."""
     folder, shim = place(suite, "named"), suite.path("shim.so")
     subprocess.run(["cc", "-shared", "-fPIC", "-x", "c", "-", "-o", shim, "-ldl"], input=NO_UNNAMED, check=True)
     env = {"LD_PRELOAD": shim}
     ended_by(suite, folder, [signal.SIGINT, signal.SIGTERM, signal.SIGHUP, signal.SIGQUIT], env=env)
-    cut = suite.path("cut.hplog", UNCLOSED[: AT[5] + 100])
-    suite.expect(["repair", "--plain", cut, suite.path("dictionary", DICTIONARY), "new"], out=b"file 1820 5\n", cwd=folder, env=env)
-    suite.holds("the finished file stands alone", contents(folder) == {"new": maker.finished(BLOCKS[:5], DICTIONARY)[0]})
+    cut, dictionary = suite.path("cut.hplog", UNCLOSED[: AT[5] + 100]), suite.path("dictionary", DICTIONARY)
+    suite.expect(["repair", "--plain", cut, dictionary, "new"], out=b"file 1820 5\n", cwd=folder, env=env)
+    expected = maker.finished(BLOCKS[:5], DICTIONARY)[0]
+    suite.holds("the finished file stands alone", contents(folder) == {"new": expected})
 
 
 def closed_streams(suite):
@@ -198,11 +208,16 @@ def closed_streams(suite):
     folder = place(suite, "closed")
     links = []
 
+    def close_all():
+        for number in range(3):
+            os.close(number)
+
     def look(process):
-        links[:] = [os.path.realpath(f"/proc/{process.pid}/fd/{number}") for number in range(3) if process.poll() is None]
+        if process.poll() is None:
+            links[:] = [os.path.realpath(f"/proc/{process.pid}/fd/{number}") for number in range(3)]
         process.terminate()
 
-    ended = disturbed(suite, folder, suite.path("big.hplog"), look, preexec_fn=lambda: [os.close(number) for number in range(3)])
+    ended = disturbed(suite, folder, suite.path("big.hplog"), look, preexec_fn=close_all)
     suite.holds("the command was looked at while it ran", ended[0] == -signal.SIGTERM, repr(ended))
     suite.holds("the standard streams are no files", links == ["/dev/null"] * 3, str(links))
 

@@ -27,13 +27,15 @@ def colours(suite):
     for env in ({"NO_COLOR": "1"}, {"TERM": "dumb"}):
         suite.holds(f"no colours with {env}", suite.terminal("check", log, env=env) == (0, plain))
     status, text = suite.terminal("check", bad)
-    suite.holds("a refusal is red on a terminal", (status, text.split(b": ")[1]) == (1, b"\033[1;31mrefused 2 0\033[0m"), repr(text))
+    is_red = text.split(b": ")[1] == b"\033[1;31mrefused 2 0\033[0m"
+    suite.holds("a refusal is red on a terminal", status == 1 and is_red, repr(text))
     suite.holds("--plain has no colours", b"\033" not in suite.terminal("check", "--plain", log)[1])
     suite.holds("a listing has no colours", suite.terminal("cat", log, book) == (0, suite.run("cat", log, book).out))
 
 
 def halted(process, resident):
-    """Stops the command in the midst of a file, once it holds so many bytes in memory, and leaves the clock running for a second."""
+    """Stops the command in the midst of a file, once it holds so many bytes in memory, and leaves the clock running for
+    a second."""
     while process.poll() is None and held(process) < resident:
         time.sleep(0.001)
     process.send_signal(signal.SIGSTOP)
@@ -61,7 +63,9 @@ def calling(suite):
     process.send_signal(signal.SIGCONT)
     text = terminal.rest()
     line = CLEARED + b"hplog: a file became shorter, or its disk failed, while it was in use\n"
-    suite.holds("also before the message of a file that becomes shorter", process.wait() == 2 and shows(text, b"recovering") and text.endswith(line), repr(text))
+    is_removed = shows(text, b"recovering") and text.endswith(line)
+    ended = process.wait() == 2 and is_removed
+    suite.holds("also before the message of a file that becomes shorter", ended, repr(text))
 
 
 def reading(suite):
@@ -83,7 +87,8 @@ def reading(suite):
         writer.close()
         text += terminal.rest()
         suite.holds("progress of reading a pipe", shows(text, shown), repr(text))
-        suite.holds("which is removed before the output", process.wait() == 0 and text.endswith(CLEARED + plain), repr(text))
+        is_removed = text.endswith(CLEARED + plain)
+        suite.holds("which is removed before the output", process.wait() == 0 and is_removed, repr(text))
 
 
 def silent(suite):
@@ -101,16 +106,19 @@ def printing(suite):
     for words in (["cat", log, book], ["read", log, book, "--from", "1001"]):
         process, terminal = suite.start_on_terminal(*words, stdout=subprocess.DEVNULL)
         text = terminal.until(b" MiB, ") + terminal.until(b" s")
-        suite.holds(f"progress of {words[0]}", re.search(rb"\rhplog: listing, \d+ MiB, \d+ s", text) is not None, repr(text))
+        is_shown = re.search(rb"\rhplog: listing, \d+ MiB, \d+ s", text) is not None
+        suite.holds(f"progress of {words[0]}", is_shown, repr(text))
         process.send_signal(signal.SIGINT)
-        suite.holds("which is removed by an interrupt", terminal.rest().endswith(CLEARED) and process.wait() == -signal.SIGINT)
+        is_removed = terminal.rest().endswith(CLEARED)
+        suite.holds("which is removed by an interrupt", is_removed and process.wait() == -signal.SIGINT)
     process, terminal = suite.start_on_terminal("cat", log, book)
     text, begin = terminal.until(b"blocks "), time.monotonic()
     while time.monotonic() - begin < 2 * HALF_SECOND:
         text += terminal.piece(HALF_SECOND)
     process.kill()
     terminal.rest()
-    suite.holds("but not beside a listing on the terminal", b"hplog" not in text[text.index(b"blocks ") :] and process.wait() == -signal.SIGKILL)
+    is_shown = b"hplog" in text[text.index(b"blocks ") :]
+    suite.holds("but not beside a listing on the terminal", not is_shown and process.wait() == -signal.SIGKILL)
 
 
 def waiting(suite):
@@ -121,7 +129,8 @@ def waiting(suite):
     front = process.stdout.read(1)
     time.sleep(2 * HALF_SECOND)
     suite.holds("no progress while nobody reads", terminal.now() == b"")
-    suite.holds("the listing is whole", front + process.stdout.read() == suite.run("cat", log, book).out and process.wait() == 0)
+    is_whole = front + process.stdout.read() == suite.run("cat", log, book).out
+    suite.holds("the listing is whole", is_whole and process.wait() == 0)
     terminal.rest()
 
 
@@ -129,7 +138,8 @@ def typed(suite):
     """A log is not read from a terminal."""
     process, terminal = suite.start_on_terminal("check", "-", stdin=None)
     text = terminal.rest()
-    suite.holds("nothing is read from a terminal", (process.wait(), text) == (2, b"hplog: standard input: is a terminal\n"), repr(text))
+    ended = process.wait(), text
+    suite.holds("nothing is read from a terminal", ended == (2, b"hplog: standard input: is a terminal\n"), repr(ended))
 
 
 GROUPS = [colours, calling, reading, silent, printing, waiting, typed]

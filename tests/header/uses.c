@@ -1,4 +1,5 @@
-/* Uses every name of hplog.h from C99: the sizes of its records, the type of each function, and the paper's worked cases by all of them. */
+/* Uses every name of hplog.h from C99: the sizes of its records, the type of each function, and the paper's worked
+ * cases by all of them. */
 #include "hplog.h"
 
 #include <stdio.h>
@@ -53,9 +54,12 @@ static const struct {
     hplog_writer (*writer_new)(void);
     hplog_written (*begin)(hplog_writer, uint8_t *, size_t);
     hplog_written (*add_name)(hplog_writer, uint8_t *, size_t, const uint8_t *, size_t);
-    hplog_written (*add_entry)(hplog_writer, uint8_t *, size_t, uint64_t, const uint8_t *, size_t, const uint8_t *, size_t);
-    hplog_written (*add_block)(hplog_writer, uint8_t *, size_t, uint8_t *, size_t, uint64_t, const uint8_t *, size_t, const uint8_t *, size_t, uint32_t);
-    hplog_written (*close)(hplog_writer, const uint8_t *, size_t, uint8_t *, size_t, const uint8_t *, size_t, const uint8_t *, size_t);
+    hplog_written (*add_entry)(hplog_writer, uint8_t *, size_t, uint64_t, const uint8_t *, size_t, const uint8_t *,
+                               size_t);
+    hplog_written (*add_block)(hplog_writer, uint8_t *, size_t, uint8_t *, size_t, uint64_t, const uint8_t *, size_t,
+                               const uint8_t *, size_t, uint32_t);
+    hplog_written (*close)(hplog_writer, const uint8_t *, size_t, uint8_t *, size_t, const uint8_t *, size_t,
+                           const uint8_t *, size_t);
 } calls = {hplog_open, hplog_query, hplog_recover, hplog_repair, hplog_label, hplog_block, hplog_stored,
            hplog_dictionary, hplog_names, hplog_name, hplog_name_at, hplog_number, hplog_delta, hplog_count,
            hplog_field, hplog_check_block, hplog_book, hplog_book_parts, hplog_book_part, hplog_list,
@@ -114,10 +118,13 @@ static void bounds(void) {
     const uint8_t *letters = (const uint8_t *)"abcdefghijklmnopq";
     uint8_t header[HPLOG_HEADER], plain[20], panel[HPLOG_PANEL];
     hplog_written written = calls.begin(calls.writer_new(), header, sizeof header);
-    written = calls.add_entry(written.next, plain, sizeof plain, 1000, letters, 0, letters, 0);
-    check(accepted(calls.add_entry(written.next, plain, sizeof plain, 30000000999u, letters, 0, letters, 0).answer, 0), "K7, same block");
-    check(refused(calls.add_entry(written.next, plain, sizeof plain, 30000001000u, letters, 0, letters, 0).answer, 13, 30000001000u), "K7, next block");
-    check(accepted(calls.label(letters, 16, panel, sizeof panel), 0) && memcmp(panel, letters, 16) == 0, "K8, 16 letters");
+    hplog_written first = calls.add_entry(written.next, plain, sizeof plain, 1000, letters, 0, letters, 0);
+    written = calls.add_entry(first.next, plain, sizeof plain, 30000000999u, letters, 0, letters, 0);
+    check(accepted(written.answer, 0), "K7, same block");
+    written = calls.add_entry(first.next, plain, sizeof plain, 30000001000u, letters, 0, letters, 0);
+    check(refused(written.answer, 13, 30000001000u), "K7, next block");
+    check(accepted(calls.label(letters, 16, panel, sizeof panel), 0), "K8, 16 letters");
+    check(memcmp(panel, letters, 16) == 0, "K8, all of them");
     check(accepted(calls.label(letters, 17, panel, sizeof panel), 1), "K8, 17 letters");
     check(memcmp(panel, "abcdefgh~klmnopq", sizeof panel) == 0, "K8, what is shown of them");
 }
@@ -150,14 +157,16 @@ static void small_file(void) {
     put_field(fields + HPLOG_FIELD, 1, 4, 0, 0);
     written = calls.add_entry(written.next, plain, sizeof plain, 1005, fields, sizeof fields, letters, sizeof letters);
     check(accepted(written.answer, 0) && written.next.plain == sizeof plain, "add_entry of the second");
-    written = calls.add_block(written.next, rows, sizeof rows, log + HPLOG_HEADER, HPLOG_BLOCK_HEADER + sizeof stored, 1000, plain, sizeof plain, stored,
-                              sizeof stored, 2);
+    written = calls.add_block(written.next, rows, sizeof rows, log + HPLOG_HEADER, HPLOG_BLOCK_HEADER + sizeof stored,
+                              1000, plain, sizeof plain, stored, sizeof stored, 2);
     check(accepted(written.answer, HPLOG_BLOCK_HEADER + sizeof stored), "add_block");
 
     check(accepted(calls.recover(log, 103, table, sizeof table, report, sizeof report), 1), "K9, the whole block");
     check(accepted(calls.recover(log, 102, table, sizeof table, report, sizeof report), 0), "K9, the cut block");
-    check(accepted(calls.repair(log, 103, stored_names, sizeof stored_names, fixed, sizeof fixed), sizeof fixed), "repair");
-    written = calls.close(written.next, rows, sizeof rows, last, sizeof last, names, sizeof names, stored_names, sizeof stored_names);
+    check(accepted(calls.repair(log, 103, stored_names, sizeof stored_names, fixed, sizeof fixed), sizeof fixed),
+          "repair");
+    written = calls.close(written.next, rows, sizeof rows, last, sizeof last, names, sizeof names, stored_names,
+                          sizeof stored_names);
     check(accepted(written.answer, sizeof last), "close");
     memcpy(log, last, HPLOG_HEADER);
     memcpy(log + 103, last + HPLOG_HEADER, sizeof last - HPLOG_HEADER);
@@ -168,15 +177,16 @@ static void small_file(void) {
     check(frame[0] == 103 && frame[8] == 1 && frame[16] == 108, "open's frame");
     memset(room, 0x5A, sizeof room);
     check(accepted(calls.open(log, sizeof log, room, sizeof room, frame, sizeof frame), 1), "open with room to spare");
-    check(memcmp(rows, room, sizeof rows) == 0 && room[HPLOG_ROW] == 0x5A, "open leaves what is behind the rows");
+    check(memcmp(rows, room, sizeof rows) == 0 && room[HPLOG_ROW] == 0x5A, "open leaves what is after the rows");
     check(accepted(calls.recover(log, 103, room, sizeof room, report, sizeof report), 1), "recover with room to spare");
     check(refused(calls.open(log, 10, room, HPLOG_ROW - 1, frame, sizeof frame), 1, 10), "open of a short file");
     check(refused(calls.recover(log, 10, room, HPLOG_ROW - 1, report, sizeof report), 1, 10), "recover of a short one");
     check(accepted(calls.query(rows, sizeof rows, 0, 999, numbers, sizeof numbers), 0), "K5, before the block");
     check(accepted(calls.query(rows, sizeof rows, 0, 1000, numbers, sizeof numbers), 1), "K5, its start");
-    check(accepted(calls.query(rows, sizeof rows, 1006, 2000, numbers, sizeof numbers), 0), "K6, behind the block");
+    check(accepted(calls.query(rows, sizeof rows, 1006, 2000, numbers, sizeof numbers), 0), "K6, after the block");
     check(accepted(calls.query(rows, sizeof rows, 1005, 2000, numbers, sizeof numbers), 1), "K6, its end");
-    check(accepted(calls.label(wet, 3, panel, sizeof panel), 0) && memcmp(panel, "wet             ", sizeof panel) == 0, "label");
+    check(accepted(calls.label(wet, 3, panel, sizeof panel), 0), "label");
+    check(memcmp(panel, "wet             ", sizeof panel) == 0, "label, filled up");
     check(accepted(calls.names(names, sizeof names), 2), "names");
     check(accepted(calls.name(names, sizeof names, 1), 3) && calls.name(names, sizeof names, 1).place == 16, "name");
     check(found(calls.name_at(names, sizeof names, HPLOG_FIRST_NAME), 8, 4), "name_at of the first");
@@ -202,7 +212,8 @@ static void small_file(void) {
     step = calls.count(plain, sizeof plain, step.next);
     check(step.number == 0 && step.value == 1 && step.next.at == 2, "count");
     field = calls.field(plain, sizeof plain, 2, step.next);
-    check(field.number == 0 && field.id == 1 && field.type == 1 && field.bits == (uint64_t)-42 && field.next.at == 14, "K4");
+    check(field.number == 0 && field.id == 1 && field.type == 1, "K4");
+    check(field.bits == (uint64_t)-42 && field.next.at == 14, "K4, its value");
 
     memcpy(book, "PLB\1\0\32\0\0\0", 9);
     memcpy(book + 9, plain, sizeof plain);
@@ -217,7 +228,9 @@ static void small_file(void) {
     check(accepted(piece.answer, 2), "list");
     do {
         piece = calls.list_next(log, sizeof log, book, sizeof book, piece.next, out, HPLOG_PIECE);
-        check(listed + piece.answer.count < sizeof text && memcmp(text + listed, out, (size_t)piece.answer.count) == 0, "list_next");
+        check(listed + piece.answer.count < sizeof text &&
+                  memcmp(text + listed, out, (size_t)piece.answer.count) == 0,
+              "list_next");
         listed += (size_t)piece.answer.count;
     } while (piece.answer.count != 0 && !failed);
     check(listed == sizeof text - 1, "list_next to the end");

@@ -40,9 +40,12 @@ hplog_listed hplog_list_next(const uint8_t *, size_t, const uint8_t *, size_t, h
 hplog_writer hplog_writer_new(void);
 hplog_written hplog_begin(hplog_writer, uint8_t *, size_t);
 hplog_written hplog_add_name(hplog_writer, uint8_t *, size_t, const uint8_t *, size_t);
-hplog_written hplog_add_entry(hplog_writer, uint8_t *, size_t, uint64_t, const uint8_t *, size_t, const uint8_t *, size_t);
-hplog_written hplog_add_block(hplog_writer, uint8_t *, size_t, uint8_t *, size_t, uint64_t, const uint8_t *, size_t, const uint8_t *, size_t, uint32_t);
-hplog_written hplog_close(hplog_writer, const uint8_t *, size_t, uint8_t *, size_t, const uint8_t *, size_t, const uint8_t *, size_t);
+hplog_written hplog_add_entry(hplog_writer, uint8_t *, size_t, uint64_t, const uint8_t *, size_t, const uint8_t *,
+                              size_t);
+hplog_written hplog_add_block(hplog_writer, uint8_t *, size_t, uint8_t *, size_t, uint64_t, const uint8_t *, size_t,
+                              const uint8_t *, size_t, uint32_t);
+hplog_written hplog_close(hplog_writer, const uint8_t *, size_t, uint8_t *, size_t, const uint8_t *, size_t,
+                          const uint8_t *, size_t);
 }
 
 // A label, and an empty log that is refused.

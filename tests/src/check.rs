@@ -91,8 +91,8 @@ impl Check {
         }
     }
 
-    /// Runs a library's call with copies of all that is lent at one end of their places. Gives its answer and what it left in the outputs;
-    /// the inputs must be as they were.
+    /// Runs a library's call with copies of all that is lent at one end of their places. Gives its answer and what it
+    /// left in the outputs; the inputs must be as they were.
     pub fn lend<R, const I: usize, const O: usize>(
         &mut self,
         name: &str,
@@ -103,8 +103,10 @@ impl Check {
     ) -> (R, [Vec<u8>; O]) {
         self.calls += 1;
         let (mut input_places, mut output_places) = (self.inputs.iter_mut(), self.outputs.iter_mut());
-        let lent_inputs: [&[u8]; I] = std::array::from_fn(|i| &*input_places.next().expect("few inputs").place(inputs[i], side));
-        let mut lent_outputs: [&mut [u8]; O] = std::array::from_fn(|i| output_places.next().expect("few outputs").place(&outputs[i], side));
+        let lent_inputs: [&[u8]; I] =
+            std::array::from_fn(|i| &*input_places.next().expect("few inputs").place(inputs[i], side));
+        let mut lent_outputs: [&mut [u8]; O] =
+            std::array::from_fn(|i| output_places.next().expect("few outputs").place(&outputs[i], side));
         let answer = library(lent_inputs, lent_outputs.each_mut().map(|output| &mut **output));
         let left = lent_outputs.map(|output| output.to_vec());
         let changed = (0..I).find(|&i| lent_inputs[i] != inputs[i]).map(|i| (i, lent_inputs[i].to_vec()));
@@ -114,8 +116,8 @@ impl Check {
         (answer, left)
     }
 
-    /// Runs a call on both sides, the library's with both placements of all lent memory. The outputs hold what they are lent with, and
-    /// afterwards what the call left.
+    /// Runs a call on both sides, the library's with both placements of all lent memory. The outputs hold what they are
+    /// lent with, and afterwards what the call left.
     pub fn call<A: Reply, const I: usize, const O: usize>(
         &mut self,
         name: &str,

@@ -26,10 +26,38 @@ mod foreign {
 
     #[link(name = "hplog", kind = "static")]
     extern "C" {
-        pub fn hplog_open(log: *const u8, log_len: usize, rows: *mut u8, rows_len: usize, frame: *mut u8, frame_len: usize) -> Answer;
-        pub fn hplog_query(rows: *const u8, rows_len: usize, t1: u64, t2: u64, numbers: *mut u8, numbers_len: usize) -> Answer;
-        pub fn hplog_recover(log: *const u8, log_len: usize, rows: *mut u8, rows_len: usize, report: *mut u8, report_len: usize) -> Answer;
-        pub fn hplog_repair(log: *const u8, log_len: usize, dictionary: *const u8, dictionary_len: usize, out: *mut u8, out_len: usize) -> Answer;
+        pub fn hplog_open(
+            log: *const u8,
+            log_len: usize,
+            rows: *mut u8,
+            rows_len: usize,
+            frame: *mut u8,
+            frame_len: usize,
+        ) -> Answer;
+        pub fn hplog_query(
+            rows: *const u8,
+            rows_len: usize,
+            t1: u64,
+            t2: u64,
+            numbers: *mut u8,
+            numbers_len: usize,
+        ) -> Answer;
+        pub fn hplog_recover(
+            log: *const u8,
+            log_len: usize,
+            rows: *mut u8,
+            rows_len: usize,
+            report: *mut u8,
+            report_len: usize,
+        ) -> Answer;
+        pub fn hplog_repair(
+            log: *const u8,
+            log_len: usize,
+            dictionary: *const u8,
+            dictionary_len: usize,
+            out: *mut u8,
+            out_len: usize,
+        ) -> Answer;
         pub fn hplog_label(name: *const u8, name_len: usize, panel: *mut u8, panel_len: usize) -> Answer;
         pub fn hplog_block(log: *const u8, log_len: usize, rows: *const u8, rows_len: usize, i: u64) -> BlockAnswer;
         pub fn hplog_stored(log: *const u8, log_len: usize, rows: *const u8, rows_len: usize, i: u64) -> Answer;
@@ -41,17 +69,44 @@ mod foreign {
         pub fn hplog_delta(payload: *const u8, payload_len: usize, at: Cursor) -> Step;
         pub fn hplog_count(payload: *const u8, payload_len: usize, at: Cursor) -> Step;
         pub fn hplog_field(payload: *const u8, payload_len: usize, names: u32, at: Cursor) -> FieldStep;
-        pub fn hplog_check_block(log: *const u8, log_len: usize, at: u64, plain: *const u8, plain_len: usize, names: u32) -> Answer;
+        pub fn hplog_check_block(
+            log: *const u8,
+            log_len: usize,
+            at: u64,
+            plain: *const u8,
+            plain_len: usize,
+            names: u32,
+        ) -> Answer;
         pub fn hplog_book(book: *const u8, book_len: usize, blocks: u32) -> Answer;
         pub fn hplog_book_parts(book: *const u8, book_len: usize) -> Answer;
         pub fn hplog_book_part(book: *const u8, book_len: usize, at: u64) -> Answer;
         pub fn hplog_list(log: *const u8, log_len: usize, book: *const u8, book_len: usize) -> Listed;
-        pub fn hplog_list_range(log: *const u8, log_len: usize, book: *const u8, book_len: usize, t1: u64, t2: u64) -> Listed;
-        pub fn hplog_list_next(log: *const u8, log_len: usize, book: *const u8, book_len: usize, at: Listing, out: *mut u8, out_len: usize)
-            -> Listed;
+        pub fn hplog_list_range(
+            log: *const u8,
+            log_len: usize,
+            book: *const u8,
+            book_len: usize,
+            t1: u64,
+            t2: u64,
+        ) -> Listed;
+        pub fn hplog_list_next(
+            log: *const u8,
+            log_len: usize,
+            book: *const u8,
+            book_len: usize,
+            at: Listing,
+            out: *mut u8,
+            out_len: usize,
+        ) -> Listed;
         pub fn hplog_writer_new() -> Writer;
         pub fn hplog_begin(state: Writer, out: *mut u8, out_len: usize) -> Written;
-        pub fn hplog_add_name(state: Writer, dictionary: *mut u8, dictionary_len: usize, name: *const u8, name_len: usize) -> Written;
+        pub fn hplog_add_name(
+            state: Writer,
+            dictionary: *mut u8,
+            dictionary_len: usize,
+            name: *const u8,
+            name_len: usize,
+        ) -> Written;
         pub fn hplog_add_entry(
             state: Writer,
             payload: *mut u8,
@@ -92,7 +147,9 @@ mod foreign {
 // Each call is lent whole slices that live while it runs, and outputs that overlap nothing, as hplog.h asks.
 
 pub fn open(log: &[u8], rows: &mut [u8], frame: &mut [u8]) -> Answer {
-    unsafe { foreign::hplog_open(log.as_ptr(), log.len(), rows.as_mut_ptr(), rows.len(), frame.as_mut_ptr(), frame.len()) }
+    unsafe {
+        foreign::hplog_open(log.as_ptr(), log.len(), rows.as_mut_ptr(), rows.len(), frame.as_mut_ptr(), frame.len())
+    }
 }
 
 pub fn query(rows: &[u8], t1: u64, t2: u64, numbers: &mut [u8]) -> Answer {
@@ -100,11 +157,29 @@ pub fn query(rows: &[u8], t1: u64, t2: u64, numbers: &mut [u8]) -> Answer {
 }
 
 pub fn recover(log: &[u8], rows: &mut [u8], report: &mut [u8]) -> Answer {
-    unsafe { foreign::hplog_recover(log.as_ptr(), log.len(), rows.as_mut_ptr(), rows.len(), report.as_mut_ptr(), report.len()) }
+    unsafe {
+        foreign::hplog_recover(
+            log.as_ptr(),
+            log.len(),
+            rows.as_mut_ptr(),
+            rows.len(),
+            report.as_mut_ptr(),
+            report.len(),
+        )
+    }
 }
 
 pub fn repair(log: &[u8], dictionary: &[u8], out: &mut [u8]) -> Answer {
-    unsafe { foreign::hplog_repair(log.as_ptr(), log.len(), dictionary.as_ptr(), dictionary.len(), out.as_mut_ptr(), out.len()) }
+    unsafe {
+        foreign::hplog_repair(
+            log.as_ptr(),
+            log.len(),
+            dictionary.as_ptr(),
+            dictionary.len(),
+            out.as_mut_ptr(),
+            out.len(),
+        )
+    }
 }
 
 pub fn label(name: &[u8], panel: &mut [u8]) -> Answer {
@@ -176,7 +251,9 @@ pub fn list_range(log: &[u8], book: &[u8], t1: u64, t2: u64) -> Listed {
 }
 
 pub fn list_next(log: &[u8], book: &[u8], at: Listing, out: &mut [u8]) -> Listed {
-    unsafe { foreign::hplog_list_next(log.as_ptr(), log.len(), book.as_ptr(), book.len(), at, out.as_mut_ptr(), out.len()) }
+    unsafe {
+        foreign::hplog_list_next(log.as_ptr(), log.len(), book.as_ptr(), book.len(), at, out.as_mut_ptr(), out.len())
+    }
 }
 
 pub fn writer_new() -> Writer {
@@ -192,10 +269,29 @@ pub fn add_name(state: Writer, dictionary: &mut [u8], name: &[u8]) -> Written {
 }
 
 pub fn add_entry(state: Writer, payload: &mut [u8], time: u64, fields: &[u8], text: &[u8]) -> Written {
-    unsafe { foreign::hplog_add_entry(state, payload.as_mut_ptr(), payload.len(), time, fields.as_ptr(), fields.len(), text.as_ptr(), text.len()) }
+    unsafe {
+        foreign::hplog_add_entry(
+            state,
+            payload.as_mut_ptr(),
+            payload.len(),
+            time,
+            fields.as_ptr(),
+            fields.len(),
+            text.as_ptr(),
+            text.len(),
+        )
+    }
 }
 
-pub fn add_block(state: Writer, rows: &mut [u8], out: &mut [u8], start: u64, plain: &[u8], stored: &[u8], names: u32) -> Written {
+pub fn add_block(
+    state: Writer,
+    rows: &mut [u8],
+    out: &mut [u8],
+    start: u64,
+    plain: &[u8],
+    stored: &[u8],
+    names: u32,
+) -> Written {
     unsafe {
         foreign::hplog_add_block(
             state,

@@ -23,7 +23,14 @@ extern "C" {
 /// New pages of zeros with `length` accessible bytes, a multiple of GUARD, between two inaccessible parts.
 fn pages(length: usize, protection: i32) -> *mut u8 {
     unsafe {
-        let all = mmap(std::ptr::null_mut(), length + 2 * GUARD, PROT_NONE, MAP_PRIVATE | MAP_ANONYMOUS | MAP_NORESERVE, -1, 0);
+        let all = mmap(
+            std::ptr::null_mut(),
+            length + 2 * GUARD,
+            PROT_NONE,
+            MAP_PRIVATE | MAP_ANONYMOUS | MAP_NORESERVE,
+            -1,
+            0,
+        );
         assert!(all as isize != -1, "mmap of {length} bytes");
         let inner = all.add(GUARD);
         assert!(mprotect(inner, length, protection) == 0, "mprotect of {length} bytes");
@@ -61,7 +68,7 @@ impl Lent {
     }
 }
 
-/// So many zeros, which take no memory while they are only read, with an inaccessible page behind them.
+/// So many zeros, which take no memory while they are only read, with an inaccessible page after them.
 pub fn zeros(length: usize) -> &'static [u8] {
     let capacity = length.next_multiple_of(GUARD);
     let base = pages(capacity, PROT_READ);

@@ -2,7 +2,9 @@
 
 use crate::random::Random;
 use crate::records::Writer;
-use crate::reference::{self, put, value_at, Field, Range, Value, BLOCKS, BLOCK_HEADER, CHARACTERS, FOOTER, HEADER, INDEX_HEADER, ROW, TAIL};
+use crate::reference::{
+    self, put, value_at, Field, Range, Value, BLOCKS, BLOCK_HEADER, CHARACTERS, FOOTER, HEADER, INDEX_HEADER, ROW, TAIL,
+};
 
 /// A field as it was meant: `text` is of strings and JSON, `bits` of the others.
 #[derive(Clone, Debug, PartialEq, Eq)]
@@ -59,15 +61,17 @@ impl MadeFile {
     /// The listing as it was meant, without a look at the plain bytes.
     pub fn text(&self) -> Vec<u8> {
         let entries: Vec<&MadeEntry> = self.blocks.iter().flat_map(|block| &block.entries).collect();
-        let lines = entries.iter().map(|entry| (entry.time, entry.fields.iter().map(|field| field.meant(&self.names)).collect()));
+        let lines = entries
+            .iter()
+            .map(|entry| (entry.time, entry.fields.iter().map(|field| field.meant(&self.names)).collect()));
         reference::text_of(self.blocks.len(), lines)
     }
 }
 
 /// Bytes at the ends of the ranges in the table of UTF-8, and beside them.
 pub const EDGES: [u8; 26] = [
-    0x00, 0x7F, 0x80, 0x8F, 0x90, 0x9F, 0xA0, 0xBF, 0xC0, 0xC1, 0xC2, 0xDF, 0xE0, 0xE1, 0xEC, 0xED, 0xEE, 0xEF, 0xF0, 0xF1, 0xF3, 0xF4, 0xF5, 0xF7,
-    0xF8, 0xFF,
+    0x00, 0x7F, 0x80, 0x8F, 0x90, 0x9F, 0xA0, 0xBF, 0xC0, 0xC1, 0xC2, 0xDF, 0xE0, 0xE1, 0xEC, 0xED, 0xEE, 0xEF, 0xF0,
+    0xF1, 0xF3, 0xF4, 0xF5, 0xF7, 0xF8, 0xFF,
 ];
 
 /// What has a first byte and the tails that go with it, and is no character: a longer form of one, half of a pair of
@@ -189,7 +193,20 @@ pub fn names(random: &mut Random, count: usize) -> Vec<Vec<u8>> {
     let mut names: Vec<Vec<u8>> = Vec::with_capacity(count);
     while names.len() < count {
         let mut name = match random.below(5) {
-            0 => random.pick(&[&b"site"[..], b"wet", b"", b" ", b"=", b"a=b", b"\"", b"\\x20", b"sixteen letters!", b"seventeen letters"]).to_vec(),
+            0 => random
+                .pick(&[
+                    &b"site"[..],
+                    b"wet",
+                    b"",
+                    b" ",
+                    b"=",
+                    b"a=b",
+                    b"\"",
+                    b"\\x20",
+                    b"sixteen letters!",
+                    b"seventeen letters",
+                ])
+                .to_vec(),
             _ => text(random),
         };
         while names.contains(&name) {
@@ -242,7 +259,16 @@ pub fn field(random: &mut Random, names: usize) -> MadeField {
         1 => field.bits = random.edge(),
         2 => {
             let any = random.number();
-            field.bits = random.pick(&[0, 1 << 63, 0x7FF0 << 48, 0xFFF0 << 48, 0x7FF8 << 48, 0x7FF0_0000_0000_0001, 0x3FF0 << 48, any]);
+            field.bits = random.pick(&[
+                0,
+                1 << 63,
+                0x7FF0 << 48,
+                0xFFF0 << 48,
+                0x7FF8 << 48,
+                0x7FF0_0000_0000_0001,
+                0x3FF0 << 48,
+                any,
+            ]);
         }
         3 => field.bits = random.below(2) as u64,
         _ => {}
@@ -312,7 +338,8 @@ pub fn block(random: &mut Random, before: u64, names: usize, tiny: bool) -> Made
     MadeBlock { start, end: time, entries, plain, stored: random.bytes(length) }
 }
 
-/// Stored bytes that, with the length in front of them, are a block that could follow so many blocks: so many bytes, at least 32 of them.
+/// Stored bytes that, with the length in front of them, are a block that could follow so many blocks: so many bytes, at
+/// least 32 of them.
 fn like_a_block(random: &mut Random, blocks: usize, last: u64) -> Vec<u8> {
     let content = random.bytes(blocks - 32);
     let mut out = vec![0; 32];
@@ -372,7 +399,8 @@ fn log(blocks: &[MadeBlock], dictionary: &[u8], stored: &[u8], names: u32) -> Ve
     let mut state = accepted(reference::begin(reference::writer_new(), &mut log));
     for block in blocks {
         let mut out = vec![0; BLOCK_HEADER + block.stored.len()];
-        state = accepted(reference::add_block(state, &mut rows, &mut out, block.start, &block.plain, &block.stored, names));
+        state =
+            accepted(reference::add_block(state, &mut rows, &mut out, block.start, &block.plain, &block.stored, names));
         log.extend(out);
     }
     let mut out = vec![0; HEADER + 4 + stored.len() + INDEX_HEADER + ROW * blocks.len() + FOOTER];
@@ -462,7 +490,9 @@ fn damage_field(random: &mut Random, log: &mut [u8], layout: &Layout) {
             (row_at + at, width)
         }
         4 => random.pick(&[(layout.dictionary, 4), (layout.index, 8), (layout.index + 8, 8)]),
-        _ => random.pick(&[(layout.footer, 8), (layout.footer + 8, 8), (layout.footer + 16, 4), (layout.footer + 20, 4)]),
+        _ => {
+            random.pick(&[(layout.footer, 8), (layout.footer + 8, 8), (layout.footer + 16, 4), (layout.footer + 20, 4)])
+        }
     };
     if at + width > log.len() {
         return;
@@ -493,7 +523,8 @@ fn damage_stored(random: &mut Random, log: &mut [u8], made: &MadeFile, layout: &
     }
 }
 
-/// Puts bytes between the last block and the dictionary, with the offsets that follow from it: any bytes, or one more block.
+/// Puts bytes between the last block and the dictionary, with the offsets that follow from it: any bytes, or one more
+/// block.
 fn widen(random: &mut Random, log: &mut Vec<u8>, made: &MadeFile, layout: &Layout) {
     if layout.footer + FOOTER > log.len() {
         return;
@@ -503,7 +534,11 @@ fn widen(random: &mut Random, log: &mut Vec<u8>, made: &MadeFile, layout: &Layou
         random.bytes(length)
     } else {
         let mut block = (made.blocks.len() as u32).to_le_bytes().to_vec();
-        block.extend(like_a_block(random, 32 + layout.blocks.len() % 7, made.blocks.last().map_or(0, |block| block.end)));
+        block.extend(like_a_block(
+            random,
+            32 + layout.blocks.len() % 7,
+            made.blocks.last().map_or(0, |block| block.end),
+        ));
         block
     };
     put(log, 10, 8, (layout.dictionary + between.len()) as u64);
@@ -562,7 +597,9 @@ pub fn damaged_plain(random: &mut Random, plain: &[u8]) -> Vec<u8> {
         let at = random.below(plain.len() + 1);
         match random.below(8) {
             0 => plain.truncate(at),
-            1 | 2 if at < plain.len() => plain[at] = random.pick(&[0, 1, 2, 3, 4, 5, 6, 8, 9, 0x7F, 0x80, 0xBF, 0xC0, 0xFF]),
+            1 | 2 if at < plain.len() => {
+                plain[at] = random.pick(&[0, 1, 2, 3, 4, 5, 6, 8, 9, 0x7F, 0x80, 0xBF, 0xC0, 0xFF])
+            }
             3 if at < plain.len() => plain[at] = random.byte(),
             4 if at < plain.len() => plain[at] = random.pick(&EDGES),
             5 => {
@@ -590,7 +627,8 @@ pub fn long_varint(random: &mut Random) -> Vec<u8> {
     bytes
 }
 
-/// A dictionary with a fault by chance: a name twice, a wrong id, length or count, a cut, bytes left over, a name that is not UTF-8.
+/// A dictionary with a fault by chance: a name twice, a wrong id, length or count, a cut, bytes left over, a name that
+/// is not UTF-8.
 pub fn damaged_dictionary(random: &mut Random, names: &[Vec<u8>]) -> Vec<u8> {
     let mut names = names.to_vec();
     if names.len() >= 2 && random.once_in(3) {

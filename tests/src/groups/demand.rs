@@ -1,5 +1,5 @@
-//! What a list of the writer's calls promises: the finished file (demand 2), and every file that a cut leaves (demand 3).
-//! What is expected here is known from the calls that were made, not from a scan.
+//! What a list of the writer's calls promises: the finished file (demand 2), and every file that a cut leaves (demand
+//! 3). What is expected here is known from the calls that were made, not from a scan.
 
 use super::list::{listed, pieces};
 use super::writer::{records, Calls, Room};
@@ -144,12 +144,19 @@ fn write(check: &mut Check, random: &mut Random, blocks: usize) -> Run {
         } else {
             let (start, entries) = add_by_entries(check, random, &mut calls);
             let length = random.below(12);
-            MadeBlock { start, end: entries.last().expect("an entry").time, entries, plain: calls.payload.clone(), stored: random.bytes(length) }
+            MadeBlock {
+                start,
+                end: entries.last().expect("an entry").time,
+                entries,
+                plain: calls.payload.clone(),
+                stored: random.bytes(length),
+            }
         };
         if random.once_in(6) {
             refused_call(check, random, &mut calls);
         }
-        let (answer, store) = calls.add_block(check, random, Room::Enough, block.start, &block.plain, &block.stored, names.len() as u32);
+        let (answer, store) =
+            calls.add_block(check, random, Room::Enough, block.start, &block.plain, &block.stored, names.len() as u32);
         accept(check, "add_block", answer);
         stores.push(Store { is_header: false, bytes: store });
         given.push(names.len() as u32);
@@ -285,7 +292,8 @@ fn finished_with(check: &mut Check, random: &mut Random, run: &Run, count: usize
     let mut calls = Calls::new(check);
     let (_, mut file) = calls.begin(check, random, Room::Enough);
     for (block, &names) in run.made.blocks[..count].iter().zip(&run.given) {
-        let (answer, store) = calls.add_block(check, random, Room::Enough, block.start, &block.plain, &block.stored, names);
+        let (answer, store) =
+            calls.add_block(check, random, Room::Enough, block.start, &block.plain, &block.stored, names);
         accept(check, "add_block", answer);
         file.extend(store);
     }
@@ -315,12 +323,27 @@ fn after_cut(check: &mut Check, random: &mut Random, run: &Run, cut: usize, shor
         check.same("recover of a cut header", &[&file], Answer { number: 1, place: cut as u64, count: 0 }, answer);
         return;
     }
-    check.same("recover, the blocks stored in full", &[&file], Answer { number: 0, place: 0, count: blocks as u64 }, answer);
+    check.same(
+        "recover, the blocks stored in full",
+        &[&file],
+        Answer { number: 0, place: 0, count: blocks as u64 },
+        answer,
+    );
     check.same_bytes("recover, the rows of the calls", &[&file], &expected, &outputs[0][..expected.len()]);
-    check.same_bytes("recover, the room behind the rows", &[&file], &lent_rows[expected.len()..], &outputs[0][expected.len()..]);
+    check.same_bytes(
+        "recover, the room after the rows",
+        &[&file],
+        &lent_rows[expected.len()..],
+        &outputs[0][expected.len()..],
+    );
     let report: Vec<u64> = (0..4).map(|i| reference::value_at(&outputs[1], 8 * i, 8)).collect();
     check.same("recover, the end of the last whole block", &[&file], end, report[0]);
-    check.same("recover, number and place of the stop", &[&file], stop(run, whole, end, file.len() as u64), (report[1], report[2]));
+    check.same(
+        "recover, number and place of the stop",
+        &[&file],
+        stop(run, whole, end, file.len() as u64),
+        (report[1], report[2]),
+    );
     check.same("recover, whether a whole dictionary stands", &[&file], u64::from(dictionary_whole), report[3]);
     repaired(check, random, &file, &run.made.stored, &shorter[blocks]);
     if dictionary_whole {
@@ -331,7 +354,8 @@ fn after_cut(check: &mut Check, random: &mut Random, run: &Run, cut: usize, shor
     }
 }
 
-/// What stops a scan: the block that the cut left, at its start or, with its header whole, at its size; nothing once the header is there again.
+/// What stops a scan: the block that the cut left, at its start or, with its header whole, at its size; nothing once
+/// the header is there again.
 fn stop(run: &Run, whole: usize, end: u64, length: u64) -> (u64, u64) {
     let header_again = whole >= run.made.blocks.len() + 2;
     match length - end {

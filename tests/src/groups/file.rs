@@ -6,7 +6,8 @@ use hplog_tests::make;
 use hplog_tests::random::Random;
 use hplog_tests::reference::{self, Row, BLOCKS, ROW};
 
-/// Hands on logs of every kind: valid and damaged ones, any bytes, and now and then all cuts or all single changes of a small file.
+/// Hands on logs of every kind: valid and damaged ones, any bytes, and now and then all cuts or all single changes of a
+/// small file.
 fn each_log(random: &mut Random, mut each: impl FnMut(&mut Random, &[u8])) {
     match random.below(60) {
         0 => {
@@ -67,7 +68,8 @@ pub fn open(check: &mut Check, random: &mut Random) {
 
 pub fn recover(check: &mut Check, random: &mut Random) {
     each_log(random, |random, log| {
-        let found = if log.len() >= 64 { reference::scan(log, dictionary_offset(log)).rows.len() } else { random.below(3) };
+        let found =
+            if log.len() >= 64 { reference::scan(log, dictionary_offset(log)).rows.len() } else { random.below(3) };
         let mut outputs = [awkward(random, ROW * found), awkward(random, 32)].map(|length| filled(random, length));
         check.call(
             "recover",
@@ -123,7 +125,12 @@ fn rows(random: &mut Random) -> Vec<Row> {
         time
     };
     for _ in 0..count {
-        rows.push(Row { start: later(random), end: later(random), offset: random.edge(), size: random.number() as u32 });
+        rows.push(Row {
+            start: later(random),
+            end: later(random),
+            offset: random.edge(),
+            size: random.number() as u32,
+        });
     }
     if count > 0 && random.once_in(4) {
         let at = random.below(count);

@@ -69,16 +69,20 @@ fn any_state(check: &mut Check, random: &mut Random) {
     for side in [Side::Start, Side::End] {
         let (written, left) = check.lend("begin", [], &output, side, |[], [out]| edge::begin(state, out));
         kept_on_refusal(check, "begin", state, written, &output, &left);
-        let (written, left) = check.lend("add_name", [&first], &output, side, |[name], [out]| edge::add_name(state, out, name));
+        let (written, left) =
+            check.lend("add_name", [&first], &output, side, |[name], [out]| edge::add_name(state, out, name));
         kept_on_refusal(check, "add_name", state, written, &output, &left);
         let entry = |[fields, text]: [&[u8]; 2], [out]: [&mut [u8]; 1]| edge::add_entry(state, out, time, fields, text);
         let (written, left) = check.lend("add_entry", [&first, &second], &output, side, entry);
         kept_on_refusal(check, "add_entry", state, written, &output, &left);
-        let block = |[plain, stored]: [&[u8]; 2], [rows, out]: [&mut [u8]; 2]| edge::add_block(state, rows, out, time, plain, stored, names);
+        let block = |[plain, stored]: [&[u8]; 2], [rows, out]: [&mut [u8]; 2]| {
+            edge::add_block(state, rows, out, time, plain, stored, names)
+        };
         let plain = if time % 2 == 0 { &[0, 0][..] } else { &first };
         let (written, left) = check.lend("add_block", [plain, &second], &outputs, side, block);
         kept_on_refusal(check, "add_block", state, written, &outputs, &left);
-        let closing = |[rows, plain, stored]: [&[u8]; 3], [out]: [&mut [u8]; 1]| edge::close(state, rows, out, plain, stored);
+        let closing =
+            |[rows, plain, stored]: [&[u8]; 3], [out]: [&mut [u8]; 1]| edge::close(state, rows, out, plain, stored);
         let plain = if time % 2 == 0 { &[0; 4][..] } else { &second };
         let (written, left) = check.lend("close", [&first, plain, &third], &output, side, closing);
         kept_on_refusal(check, "close", state, written, &output, &left);
@@ -86,11 +90,23 @@ fn any_state(check: &mut Check, random: &mut Random) {
 }
 
 /// A refusal gives the state back and changes no lent byte.
-fn kept_on_refusal<const O: usize>(check: &Check, call: &str, state: Writer, written: Written, before: &[Vec<u8>; O], after: &[Vec<u8>; O]) {
+fn kept_on_refusal<const O: usize>(
+    check: &Check,
+    call: &str,
+    state: Writer,
+    written: Written,
+    before: &[Vec<u8>; O],
+    after: &[Vec<u8>; O],
+) {
     if written.number() == 0 {
         return;
     }
-    check.same(&format!("{call} from any state, count and state of a refusal"), &[], (0, state), (written.answer.count, written.next));
+    check.same(
+        &format!("{call} from any state, count and state of a refusal"),
+        &[],
+        (0, state),
+        (written.answer.count, written.next),
+    );
     for (before, after) in before.iter().zip(after) {
         check.same_bytes(&format!("{call} from {state:?}, output of a refusal"), &[], before, after);
     }
@@ -105,7 +121,13 @@ fn any_listing(check: &mut Check, random: &mut Random) {
     } else {
         Listing {
             places: std::array::from_fn(|_| if random.once_in(2) { random.below(200) as u64 } else { random.edge() }),
-            counts: std::array::from_fn(|_| if random.once_in(2) { random.below(200) as u32 } else { random.edge() as u32 }),
+            counts: std::array::from_fn(|_| {
+                if random.once_in(2) {
+                    random.below(200) as u32
+                } else {
+                    random.edge() as u32
+                }
+            }),
             kinds: [random.edge() as u8, random.below(10) as u8],
         }
     };
@@ -117,12 +139,24 @@ fn any_listing(check: &mut Check, random: &mut Random) {
         let length = random.below(200);
         let output = [filled(random, length)];
         let side = if random.once_in(2) { Side::Start } else { Side::End };
-        let (listed, left) = check.lend("list_next", [&made.log, &book], &output, side, |[log, book], [out]| edge::list_next(log, book, at, out));
+        let (listed, left) = check.lend("list_next", [&made.log, &book], &output, side, |[log, book], [out]| {
+            edge::list_next(log, book, at, out)
+        });
         let count = listed.answer.count as usize;
         if listed.answer.number != 0 || count > length {
-            check.fail("list_next from anywhere", &[&made.log, &book], &format!("no refusal, at most {length} bytes"), &listed.answer);
+            check.fail(
+                "list_next from anywhere",
+                &[&made.log, &book],
+                &format!("no refusal, at most {length} bytes"),
+                &listed.answer,
+            );
         }
-        check.same_bytes("list_next from anywhere, bytes past those written", &[&made.log, &book], &output[0][count..], &left[0][count..]);
+        check.same_bytes(
+            "list_next from anywhere, bytes past those written",
+            &[&made.log, &book],
+            &output[0][count..],
+            &left[0][count..],
+        );
         at = listed.next;
     }
 }
@@ -140,23 +174,65 @@ pub fn large(check: &mut Check, random: &mut Random) {
     for length in [LIMIT - 1, LIMIT, LIMIT + 7] {
         let lent = &zeros[..length];
         for log in [&unclosed, &made.log] {
-            both(check, "repair", made.log.len(), |out| reference::repair(log, lent, out), |out| edge::repair(log, lent, out));
+            both(
+                check,
+                "repair",
+                made.log.len(),
+                |out| reference::repair(log, lent, out),
+                |out| edge::repair(log, lent, out),
+            );
         }
         both(check, "label", 16, |panel| reference::label(lent, panel), |panel| edge::label(lent, panel));
         both(check, "names", 0, |_| reference::names(lent), |_| edge::names(lent));
-        both(check, "open", 40, |frame| reference::open(lent, &mut [], frame), |frame| edge::open(lent, &mut [], frame));
-        both(check, "recover", 32, |report| reference::recover(lent, &mut [], report), |report| edge::recover(lent, &mut [], report));
+        both(
+            check,
+            "open",
+            40,
+            |frame| reference::open(lent, &mut [], frame),
+            |frame| edge::open(lent, &mut [], frame),
+        );
+        both(
+            check,
+            "recover",
+            32,
+            |report| reference::recover(lent, &mut [], report),
+            |report| edge::recover(lent, &mut [], report),
+        );
         let rows = &zeros[..length - length % 28];
-        both(check, "query", 64, |numbers| reference::query(rows, 0, 9, numbers), |numbers| edge::query(rows, 0, 9, numbers));
-        both(check, "query", 64, |numbers| reference::query(lent, 0, 9, numbers), |numbers| edge::query(lent, 0, 9, numbers));
+        both(
+            check,
+            "query",
+            64,
+            |numbers| reference::query(rows, 0, 9, numbers),
+            |numbers| edge::query(rows, 0, 9, numbers),
+        );
+        both(
+            check,
+            "query",
+            64,
+            |numbers| reference::query(lent, 0, 9, numbers),
+            |numbers| edge::query(lent, 0, 9, numbers),
+        );
         let at = Cursor { at: length as u64 - 3 };
         both(check, "delta", 0, |_| reference::delta(lent, at), |_| edge::delta(lent, at));
         both(check, "count", 0, |_| reference::count(lent, at), |_| edge::count(lent, at));
         both(check, "field", 0, |_| reference::field(zeros, 1, at), |_| edge::field(zeros, 1, at));
         both(check, "field", 0, |_| reference::field(lent, 1, at), |_| edge::field(lent, 1, at));
         let begun = reference::begin(reference::writer_new(), &mut [0; HEADER]).next;
-        both(check, "add_name", 64, |out| reference::add_name(begun, out, lent), |out| edge::add_name(begun, out, lent));
-        both(check, "close", 64, |out| reference::close(begun, &[], out, &[0; 4], lent), |out| edge::close(begun, &[], out, &[0; 4], lent));
+        both(
+            check,
+            "add_name",
+            64,
+            |out| reference::add_name(begun, out, lent),
+            |out| edge::add_name(begun, out, lent),
+        );
+        both(
+            check,
+            "close",
+            64,
+            |out| reference::close(begun, &[], out, &[0; 4], lent),
+            |out| edge::close(begun, &[], out, &[0; 4], lent),
+        );
         if length >= LIMIT {
             let add = |stored: &'static [u8], plain: &'static [u8]| {
                 (
@@ -181,7 +257,13 @@ fn long_texts(check: &mut Check, zeros: &[u8]) {
     let mut add = |length: usize, text: &[u8]| {
         let mut field = [0; FIELD];
         reference::put(&mut field, 16, 8, length as u64);
-        both(check, "add_entry", 64, |out| reference::add_entry(named, out, 0, &field, text), |out| edge::add_entry(named, out, 0, &field, text));
+        both(
+            check,
+            "add_entry",
+            64,
+            |out| reference::add_entry(named, out, 0, &field, text),
+            |out| edge::add_entry(named, out, 0, &field, text),
+        );
     };
     for bits in [7, 14, 21, 28] {
         add((1 << bits) - 1, zeros);
@@ -193,7 +275,13 @@ fn long_texts(check: &mut Check, zeros: &[u8]) {
 }
 
 /// A call with one small output on both sides.
-fn both<A: Reply>(check: &mut Check, name: &str, length: usize, reference: impl Fn(&mut [u8]) -> A, library: impl Fn(&mut [u8]) -> A) {
+fn both<A: Reply>(
+    check: &mut Check,
+    name: &str,
+    length: usize,
+    reference: impl Fn(&mut [u8]) -> A,
+    library: impl Fn(&mut [u8]) -> A,
+) {
     let name = format!("{name} with large lengths");
     check.call(&name, [], &mut [vec![0xEE; length]], |[], [out]| reference(out), |[], [out]| library(out));
 }

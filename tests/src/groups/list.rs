@@ -88,9 +88,17 @@ pub fn book(check: &mut Check, random: &mut Random) {
         2..=6 => make::damaged_book(random, &made),
         _ => made.book(),
     };
-    let whole = check.call("book_parts", [&book], &mut [], |[book], []| reference::book_parts(book), |[book], []| edge::book_parts(book));
+    let whole = check.call(
+        "book_parts",
+        [&book],
+        &mut [],
+        |[book], []| reference::book_parts(book),
+        |[book], []| edge::book_parts(book),
+    );
     let count = made.blocks.len() as u32;
-    for blocks in [count, (whole.count as u32).wrapping_sub(1), random.below(count as usize + 3) as u32, random.edge() as u32] {
+    for blocks in
+        [count, (whole.count as u32).wrapping_sub(1), random.below(count as usize + 3) as u32, random.edge() as u32]
+    {
         check.call(
             &format!("book of {blocks} blocks"),
             [&book],
@@ -109,7 +117,7 @@ pub fn book(check: &mut Check, random: &mut Random) {
     }
 }
 
-/// The part at a place; gives the place behind it back.
+/// The part at a place; gives the place after it back.
 fn part(check: &mut Check, book: &[u8], at: u64) -> u64 {
     let found = check.call(
         &format!("book_part at {at}"),
@@ -157,8 +165,9 @@ fn ranges(check: &mut Check, random: &mut Random, log: &[u8], book: &[u8]) {
 /// The entries of a range: the check with both placements, and all pieces.
 fn range(check: &mut Check, random: &mut Random, log: &[u8], book: &[u8], t1: u64, t2: u64) {
     let (answer, text) = reference::range(log, book, t1, t2);
-    let [first, second] = [Side::Start, Side::End]
-        .map(|side| check.lend("list_range", [log, book], &[], side, |[log, book], []| edge::list_range(log, book, t1, t2)).0);
+    let [first, second] = [Side::Start, Side::End].map(|side| {
+        check.lend("list_range", [log, book], &[], side, |[log, book], []| edge::list_range(log, book, t1, t2)).0
+    });
     check.same(&format!("list_range from {t1} to {t2}"), &[log, book], answer, first.answer);
     check.same("list_range, the two placements", &[log, book], first, second);
     pieces(check, random, log, book, first.next, &text);
@@ -166,7 +175,8 @@ fn range(check: &mut Check, random: &mut Random, log: &[u8], book: &[u8], t1: u6
 
 /// The check alone, with both placements.
 pub fn listed(check: &mut Check, log: &[u8], book: &[u8], expected: Answer) -> Listed {
-    let [first, second] = [Side::Start, Side::End].map(|side| check.lend("list", [log, book], &[], side, |[log, book], []| edge::list(log, book)).0);
+    let [first, second] = [Side::Start, Side::End]
+        .map(|side| check.lend("list", [log, book], &[], side, |[log, book], []| edge::list(log, book)).0);
     check.same("list", &[log, book], expected, first.answer);
     check.same("list, the two placements", &[log, book], first, second);
     first
@@ -182,7 +192,8 @@ pub fn pieces(check: &mut Check, random: &mut Random, log: &[u8], book: &[u8], s
         let side = if random.once_in(2) { Side::Start } else { Side::End };
         let out = filled(random, room);
         let lent = [out];
-        let (listed, [left]) = check.lend("list_next", [log, book], &lent, side, |[log, book], [out]| edge::list_next(log, book, at, out));
+        let (listed, [left]) =
+            check.lend("list_next", [log, book], &lent, side, |[log, book], [out]| edge::list_next(log, book, at, out));
         let count = listed.answer.count as usize;
         if count > room || listed.answer.number != 0 || listed.answer.place != 0 {
             check.fail("list_next", &[log, book], &format!("an accepted call, at most {room} bytes"), &listed.answer);

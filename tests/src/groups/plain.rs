@@ -22,7 +22,13 @@ pub fn label(check: &mut Check, random: &mut Random) {
         }
     }
     let mut outputs = [awkward(random, 16)].map(|length| filled(random, length));
-    check.call("label", [&name], &mut outputs, |[name], [panel]| reference::label(name, panel), |[name], [panel]| edge::label(name, panel));
+    check.call(
+        "label",
+        [&name],
+        &mut outputs,
+        |[name], [panel]| reference::label(name, panel),
+        |[name], [panel]| edge::label(name, panel),
+    );
 }
 
 /// Dictionaries of every kind; rarely one around the most names that there may be.
@@ -59,7 +65,13 @@ fn most_names(random: &mut Random) -> Vec<u8> {
 
 pub fn names(check: &mut Check, random: &mut Random) {
     let dictionary = dictionary(random);
-    check.call("names", [&dictionary], &mut [], |[dictionary], []| reference::names(dictionary), |[dictionary], []| edge::names(dictionary));
+    check.call(
+        "names",
+        [&dictionary],
+        &mut [],
+        |[dictionary], []| reference::names(dictionary),
+        |[dictionary], []| edge::names(dictionary),
+    );
 }
 
 pub fn name(check: &mut Check, random: &mut Random) {
@@ -112,7 +124,7 @@ fn from_name_to_name(check: &mut Check, random: &mut Random, dictionary: &[u8], 
         }
         at = name.place + name.count;
     }
-    check.same("name_at, behind the last", &[dictionary], dictionary.len() as u64, at);
+    check.same("name_at, after the last", &[dictionary], dictionary.len() as u64, at);
 }
 
 pub fn number(check: &mut Check, random: &mut Random) {

@@ -25,8 +25,8 @@ pub fn text(check: &mut Check, random: &mut Random) {
         every_call(check, random, &[&before[..], &text].concat());
         let front = if random.once_in(2) { make::long_text(random) } else { Vec::new() };
         let length = random.below(192);
-        let behind = characters(random, size, length);
-        every_call(check, random, &[&front[..], &before, &text, &behind].concat());
+        let after = characters(random, size, length);
+        every_call(check, random, &[&front[..], &before, &text, &after].concat());
     }
     for _ in 0..100 {
         let mut text = make::long_text(random);
@@ -93,8 +93,13 @@ fn judged(check: &Check, call: &str, text: &[u8], refusal: (u64, u64), found: (u
 
 fn names(check: &mut Check, text: &[u8]) {
     let dictionary = make::dictionary(&[text.to_vec()]);
-    let answer =
-        check.call("names", [&dictionary], &mut [], |[dictionary], []| reference::names(dictionary), |[dictionary], []| edge::names(dictionary));
+    let answer = check.call(
+        "names",
+        [&dictionary],
+        &mut [],
+        |[dictionary], []| reference::names(dictionary),
+        |[dictionary], []| edge::names(dictionary),
+    );
     judged(check, "names, by Rust's judge", text, (10, 8), (answer.number, answer.place));
 }
 
@@ -117,7 +122,7 @@ fn plain(kind: u8, text: &[u8]) -> Vec<u8> {
     [&[0, 1, 0, 0, kind, length as u8 | 0x80, (length >> 7) as u8], text].concat()
 }
 
-/// By chance tails behind the text, which would make a character that is cut whole.
+/// By chance tails after the text, which would make a character that is cut whole.
 fn tails(random: &mut Random) -> &'static [u8] {
     random.pick(&[&[], &[0x80; 3]])
 }

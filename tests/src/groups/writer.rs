@@ -50,7 +50,8 @@ fn needed(random: &mut Random, answer: Answer) -> usize {
 
 impl Calls {
     pub fn new(check: &mut Check) -> Calls {
-        let state = check.call("writer_new", [], &mut [], |[], []| reference::writer_new(), |[], []| edge::writer_new());
+        let state =
+            check.call("writer_new", [], &mut [], |[], []| reference::writer_new(), |[], []| edge::writer_new());
         Calls { state, dictionary: Vec::new(), payload: Vec::new(), rows: Vec::new() }
     }
 
@@ -93,7 +94,15 @@ impl Calls {
         written.answer
     }
 
-    pub fn add_entry(&mut self, check: &mut Check, random: &mut Random, room: Room, time: u64, fields: &[u8], text: &[u8]) -> Answer {
+    pub fn add_entry(
+        &mut self,
+        check: &mut Check,
+        random: &mut Random,
+        room: Room,
+        time: u64,
+        fields: &[u8],
+        text: &[u8],
+    ) -> Answer {
         let state = self.state;
         let need = needed(random, reference::add_entry(state, &mut [], time, fields, text).answer);
         let length = room.length(random, need);
@@ -145,7 +154,15 @@ impl Calls {
     }
 
     /// `rows` is how many bytes of the rows are lent.
-    pub fn close(&mut self, check: &mut Check, random: &mut Random, room: Room, rows: usize, plain: &[u8], stored: &[u8]) -> (Answer, Vec<u8>) {
+    pub fn close(
+        &mut self,
+        check: &mut Check,
+        random: &mut Random,
+        room: Room,
+        rows: usize,
+        plain: &[u8],
+        stored: &[u8],
+    ) -> (Answer, Vec<u8>) {
         let state = self.state;
         let rows = held_in(random, &self.rows, rows);
         let need = needed(random, reference::close(state, &rows, &mut [], plain, stored).answer);

@@ -5,8 +5,8 @@ use crate::make::EDGES;
 use crate::records::{Cursor, Writer};
 
 const PLAIN: [u8; 26] = [
-    0x00, 0x01, 0x01, 0x00, 0x01, 0x08, 0xD6, 0xFF, 0xFF, 0xFF, 0xFF, 0xFF, 0xFF, 0xFF, 0x05, 0x02, 0x00, 0x00, 0x00, 0x02, 0x42, 0x37, 0x01, 0x00,
-    0x04, 0x00,
+    0x00, 0x01, 0x01, 0x00, 0x01, 0x08, 0xD6, 0xFF, 0xFF, 0xFF, 0xFF, 0xFF, 0xFF, 0xFF, 0x05, 0x02, 0x00, 0x00, 0x00,
+    0x02, 0x42, 0x37, 0x01, 0x00, 0x04, 0x00,
 ];
 const STORED: [u8; 3] = [0xAA, 0xBB, 0xCC];
 const DICTIONARY: &[u8] = b"\x02\0\0\0\0\0\x04\0site\x01\0\x03\0wet";
@@ -202,7 +202,10 @@ fn the_small_file_lists_as_three_lines() {
     book.extend(DICTIONARY);
     let (answer, text) = listing(&small_file(), &book);
     assert_eq!((answer.number, answer.count), (0, 2));
-    assert_eq!(String::from_utf8(text).expect("ASCII"), "blocks 1 entries 2\n1000 wet=i:-42\n1005 site=s:\"B7\" wet=n\n");
+    assert_eq!(
+        String::from_utf8(text).expect("ASCII"),
+        "blocks 1 entries 2\n1000 wet=i:-42\n1005 site=s:\"B7\" wet=n\n"
+    );
 }
 
 #[test]
@@ -232,12 +235,28 @@ fn packed_entries_are_the_small_files_plain_bytes() {
 }
 
 /// Characters at the edges of the table of UTF-8.
-const ACCEPTED: [&[u8]; 8] =
-    [b"\xC2\x80", b"\xE0\xA0\x80", b"\xED\x9F\xBF", b"\xEE\x80\x80", b"\xEF\xBF\xBF", b"\xF0\x90\x80\x80", b"\xF4\x8F\xBF\xBF", b"\0"];
+const ACCEPTED: [&[u8]; 8] = [
+    b"\xC2\x80",
+    b"\xE0\xA0\x80",
+    b"\xED\x9F\xBF",
+    b"\xEE\x80\x80",
+    b"\xEF\xBF\xBF",
+    b"\xF0\x90\x80\x80",
+    b"\xF4\x8F\xBF\xBF",
+    b"\0",
+];
 
 /// What stands just beside it, though the number of bytes is right.
-const REFUSED: [&[u8]; 8] =
-    [b"\xC0\x80", b"\xC1\xBF", b"\xE0\x9F\xBF", b"\xED\xA0\x80", b"\xF0\x8F\xBF\xBF", b"\xF4\x90\x80\x80", b"\xF5\x80\x80\x80", b"\xF7\xBF\xBF\xBF"];
+const REFUSED: [&[u8]; 8] = [
+    b"\xC0\x80",
+    b"\xC1\xBF",
+    b"\xE0\x9F\xBF",
+    b"\xED\xA0\x80",
+    b"\xF0\x8F\xBF\xBF",
+    b"\xF4\x90\x80\x80",
+    b"\xF5\x80\x80\x80",
+    b"\xF7\xBF\xBF\xBF",
+];
 
 /// The numbers and places of the calls that judge a text, in turn: `names` of a dictionary with the names "a" and this,
 /// `add_name`, and `field` and `add_entry` with a string and with JSON.

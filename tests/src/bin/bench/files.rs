@@ -96,7 +96,13 @@ pub fn open_recover_repair(lines: &mut Vec<Line>) {
         });
         let times = peer_times(&cut);
         for (call, ours) in [("open", open), ("recover", recover), ("repair", repair)] {
-            lines.extend(times.iter().map(|&(peer, theirs)| Line { call, shape: shape(size, blocks), peer, ours, theirs }));
+            lines.extend(times.iter().map(|&(peer, theirs)| Line {
+                call,
+                shape: shape(size, blocks),
+                peer,
+                ours,
+                theirs,
+            }));
         }
     }
 }
@@ -104,7 +110,9 @@ pub fn open_recover_repair(lines: &mut Vec<Line>) {
 pub fn query(lines: &mut Vec<Line>) {
     for count in [1usize, 64, 4096] {
         let rows: Vec<u8> = (0..count as u64)
-            .flat_map(|i| [1000 * i, 1000 * i + 900, 64 + 36 * i].into_iter().flat_map(u64::to_le_bytes).chain(3u32.to_le_bytes()))
+            .flat_map(|i| {
+                [1000 * i, 1000 * i + 900, 64 + 36 * i].into_iter().flat_map(u64::to_le_bytes).chain(3u32.to_le_bytes())
+            })
             .collect();
         let (t1, t2) = (250 * count as u64, 750 * count as u64);
         let mut numbers = vec![0; 4 * count];
@@ -152,7 +160,13 @@ pub fn listing(lines: &mut Vec<Line>) {
             black_box(reference::listing(black_box(&made.log), black_box(&book)));
         });
         let size = made.log.len() + book.len();
-        lines.push(Line { call: "listing", shape: format!("{} KiB, {blocks} blocks", size / KIB), peer: "Rust", ours, theirs });
+        lines.push(Line {
+            call: "listing",
+            shape: format!("{} KiB, {blocks} blocks", size / KIB),
+            peer: "Rust",
+            ours,
+            theirs,
+        });
     }
 }
 
@@ -166,7 +180,8 @@ fn numbers(fields: usize, names: usize) -> (Vec<u8>, Vec<u8>) {
     state.dictionary = dictionary.len() as u64;
     let mut plain = vec![0; 16 * fields];
     for _ in 0..fields / 4 {
-        let records: Vec<u8> = (0..4).flat_map(|_| record(random.below(names) as u16, 1, random.below(1000) as u64, 0)).collect();
+        let records: Vec<u8> =
+            (0..4).flat_map(|_| record(random.below(names) as u16, 1, random.below(1000) as u64, 0)).collect();
         state = reference::add_entry(state, &mut plain, 1000, &records, &[]).next;
     }
     plain.truncate(state.plain as usize);
@@ -196,6 +211,12 @@ pub fn naming(lines: &mut Vec<Line>) {
         if names == 10 {
             ten = ours;
         }
-        lines.push(Line { call: "list_next", shape: format!("{FIELDS} fields, {names} names"), peer: "itself, 10 names", ours, theirs: ten });
+        lines.push(Line {
+            call: "list_next",
+            shape: format!("{FIELDS} fields, {names} names"),
+            peer: "itself, 10 names",
+            ours,
+            theirs: ten,
+        });
     }
 }

@@ -1,5 +1,6 @@
-//! Times the library against peers in the same run: the checksums of zlib, libdeflate and ISA-L and memcpy on the same bytes, a plain C loop,
-//! Rust's own judge of UTF-8, and the implementation in Rust. Prints a table, and writes the ratios as a plot to the file that is named.
+//! Times the library against peers in the same run: the checksums of zlib, libdeflate and ISA-L and memcpy on the same
+//! bytes, a plain C loop, Rust's own judge of UTF-8, and the implementation in Rust. Prints a table, and writes the
+//! ratios as a plot to the file that is named.
 
 #[path = "../../edge.rs"]
 #[allow(dead_code)]

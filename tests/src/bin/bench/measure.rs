@@ -47,6 +47,14 @@ pub fn table(lines: &[Line]) {
     println!("| call | on | time | peer | its time | ratio |");
     println!("|---|---|---|---|---|---|");
     for line in lines {
-        println!("| {} | {} | {} | {} | {} | {:.2} |", line.call, line.shape, time(line.ours), line.peer, time(line.theirs), line.ratio());
+        println!(
+            "| {} | {} | {} | {} | {} | {:.2} |",
+            line.call,
+            line.shape,
+            time(line.ours),
+            line.peer,
+            time(line.theirs),
+            line.ratio()
+        );
     }
 }

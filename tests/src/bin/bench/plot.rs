@@ -18,20 +18,26 @@ fn place(ratio: f64) -> f64 {
 pub fn svg(lines: &[Line]) -> String {
     let height = ROW * (lines.len() + 3);
     let mut text = format!(
-        "<svg xmlns=\"http://www.w3.org/2000/svg\" width=\"{}\" height=\"{height}\" font-family=\"sans-serif\" font-size=\"12\">\n",
+        "<svg xmlns=\"http://www.w3.org/2000/svg\" width=\"{}\" height=\"{height}\" \
+         font-family=\"sans-serif\" font-size=\"12\">\n",
         LEFT + WIDTH + 70
     );
     let alike = place(1.0);
     for power in -4..=4 {
         let (at, ratio) = (place(2f64.powi(power)), 2f64.powi(power));
-        let _ = writeln!(text, "<line x1=\"{at:.1}\" y1=\"{ROW}\" x2=\"{at:.1}\" y2=\"{height}\" stroke=\"#ddd\"/><text x=\"{at:.1}\" y=\"12\" text-anchor=\"middle\">{ratio}</text>");
+        let _ = writeln!(
+            text,
+            "<line x1=\"{at:.1}\" y1=\"{ROW}\" x2=\"{at:.1}\" y2=\"{height}\" stroke=\"#ddd\"/>\
+             <text x=\"{at:.1}\" y=\"12\" text-anchor=\"middle\">{ratio}</text>"
+        );
     }
     for (i, line) in lines.iter().enumerate() {
         let (y, end) = (ROW * (i + 2), place(line.ratio()));
         let colour = if line.ratio() >= 1.0 { "#2a7" } else { "#c63" };
         let _ = writeln!(
             text,
-            "<text x=\"4\" y=\"{}\">{}, {} / {}</text><rect x=\"{:.1}\" y=\"{}\" width=\"{:.1}\" height=\"{}\" fill=\"{colour}\"/>",
+            "<text x=\"4\" y=\"{}\">{}, {} / {}</text>\
+             <rect x=\"{:.1}\" y=\"{}\" width=\"{:.1}\" height=\"{}\" fill=\"{colour}\"/>",
             y + 12,
             line.call,
             line.shape,

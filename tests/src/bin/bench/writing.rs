@@ -25,7 +25,8 @@ pub fn dictionary(lines: &mut Vec<Line>) {
 /// Names added one by one, with a common beginning: each is looked for among those held.
 pub fn adding(lines: &mut Vec<Line>) {
     for count in [1000usize, 10_000] {
-        let names: Vec<Vec<u8>> = (0..count).map(|i| format!("a beginning that they all have {i:07}").into_bytes()).collect();
+        let names: Vec<Vec<u8>> =
+            (0..count).map(|i| format!("a beginning that they all have {i:07}").into_bytes()).collect();
         let mut dictionary = vec![0; 4 + names.iter().map(|name| 4 + name.len()).sum::<usize>()];
         let begun = reference::begin(reference::writer_new(), &mut [0; 64]).next;
         let mut fill = |add: &dyn Fn(Writer, &mut [u8], &[u8]) -> Written| {
@@ -70,8 +71,12 @@ pub fn entries(lines: &mut Vec<Line>) {
     let begun = Writer { names: 4, ..reference::begin(reference::writer_new(), &mut [0; 64]).next };
     for count in [100, 10_000, 100_000] {
         let mut payload = vec![0; 64 * count as usize];
-        let ours = shortest(|| fill(begun, count, &mut payload, |state, out, time| edge::add_entry(state, out, time, &fields, b"B7")));
-        let theirs = shortest(|| fill(begun, count, &mut payload, |state, out, time| reference::add_entry(state, out, time, &fields, b"B7")));
+        let ours = shortest(|| {
+            fill(begun, count, &mut payload, |state, out, time| edge::add_entry(state, out, time, &fields, b"B7"))
+        });
+        let theirs = shortest(|| {
+            fill(begun, count, &mut payload, |state, out, time| reference::add_entry(state, out, time, &fields, b"B7"))
+        });
         lines.push(Line { call: "add_entry", shape: format!("{count} entries"), peer: "Rust", ours, theirs });
     }
 }
