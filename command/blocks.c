@@ -4,8 +4,10 @@
 #include "calendar.h"
 #include "hplog.h"
 #include "message.h"
+#include "status.h"
 #include "terminal.h"
 #include "text.h"
+#include "words.h"
 
 #include <stdio.h>
 #include <stdlib.h>
@@ -30,28 +32,34 @@ uint8_t *blocks_rows(const input *log, size_t *length)
     return rows;
 }
 
-uint8_t *blocks_choose(const input *log, const uint8_t *rows, size_t count, uint64_t t1, uint64_t t2, size_t *found)
+int blocks_choose(const input *log, const uint8_t *rows, size_t count, uint64_t t1, uint64_t t2, blocks_chosen *chosen)
 {
     uint8_t none[1];
     size_t length = count * HPLOG_ROW;
     hplog_answer answer = hplog_query(rows, length, t1, t2, none, 0);
+    if (answer.number != 0 && answer.number != 12)
+        return words_refused_query(log->name, answer.number, answer.place);
     size_t room = answer.number == 12 ? (size_t)answer.place : 0;
-    uint8_t *numbers = malloc(room + 1);
-    if (numbers == NULL) {
-        message_error(log->name);
-        return NULL;
+    chosen->numbers = malloc(room + 1);
+    if (chosen->numbers == NULL)
+        return message_error(log->name);
+    answer = hplog_query(rows, length, t1, t2, chosen->numbers, room);
+    if (answer.number != 0) {
+        free(chosen->numbers);
+        return words_refused_query(log->name, answer.number, answer.place);
     }
-    *found = (size_t)hplog_query(rows, length, t1, t2, numbers, room).count;
-    return numbers;
+    chosen->count = (size_t)answer.count;
+    return STATUS_ACCEPTED;
 }
 
-/* The block in place i of those to print. It is not refused: a row that the library wrote has a whole header in the
- * file. */
-static block block_at(const input *log, const uint8_t *rows, const uint8_t *numbers, size_t i)
+/* Reads the block in place i of those to print; gives the exit status back. */
+static int read_block(const input *log, const uint8_t *rows, const uint8_t *numbers, size_t i, block *found)
 {
     uint64_t number = numbers == NULL ? i : bytes_u32(numbers + 4 * i);
     hplog_block_answer b = hplog_block(log->bytes, log->length, rows, (number + 1) * HPLOG_ROW, number);
-    return (block){{
+    if (b.number != 0)
+        return words_refused_block(log, b.number, b.place);
+    *found = (block){{
         [NUMBER] = number,
         [OFFSET] = b.offset,
         [STORED] = b.stored,
@@ -60,6 +68,7 @@ static block block_at(const input *log, const uint8_t *rows, const uint8_t *numb
         [START] = b.start,
         [END] = b.end,
     }};
+    return STATUS_ACCEPTED;
 }
 
 static const char *cell(const block *b, int column, char text[CALENDAR_TEXT])
@@ -95,26 +104,38 @@ static void print_headings(const int *widths)
     fputs(is_bold ? "\033[0m" : "", stdout);
 }
 
-void blocks_print(const input *log, const uint8_t *rows, const uint8_t *numbers, size_t count, bool is_plain)
+static void widen(int *widths, const block *b)
 {
     char text[CALENDAR_TEXT];
+    for (int c = 0; c < COLUMNS; c++) {
+        int width = (int)strlen(cell(b, c, text));
+        widths[c] = width > widths[c] ? width : widths[c];
+    }
+}
+
+int blocks_print(const input *log, const uint8_t *rows, const uint8_t *numbers, size_t count, bool is_plain)
+{
+    block b;
     int widths[COLUMNS];
+    int status = STATUS_ACCEPTED;
     for (int c = 0; c < COLUMNS; c++)
         widths[c] = (int)strlen(headings[c]);
     for (size_t i = 0; i < count; i++) {
-        block b = block_at(log, rows, numbers, i);
-        for (int c = 0; c < COLUMNS; c++) {
-            int width = (int)strlen(cell(&b, c, text));
-            widths[c] = width > widths[c] ? width : widths[c];
-        }
+        status = read_block(log, rows, numbers, i, &b);
+        if (status != STATUS_ACCEPTED)
+            return status;
+        widen(widths, &b);
     }
     if (!is_plain && count > 0)
         print_headings(widths);
     for (size_t i = 0; i < count; i++) {
-        block b = block_at(log, rows, numbers, i);
+        status = read_block(log, rows, numbers, i, &b);
+        if (status != STATUS_ACCEPTED)
+            return status;
         if (is_plain)
             print_plain(&b);
         else
             print_cells(widths, &b);
     }
+    return status;
 }

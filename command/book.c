@@ -12,11 +12,12 @@
 hplog_answer book_dictionary(const input *book, book_part *dictionary)
 {
     hplog_answer parts = hplog_book_parts(book->bytes, book->length);
-    if (parts.number == 0) {
-        hplog_answer last = hplog_book_part(book->bytes, book->length, parts.place);
+    if (parts.number != 0)
+        return parts;
+    hplog_answer last = hplog_book_part(book->bytes, book->length, parts.place);
+    if (last.number == 0)
         *dictionary = (book_part){book->bytes + last.place, (size_t)last.count};
-    }
-    return parts;
+    return last;
 }
 
 /* Finds the first block whose plain entries are refused, of a log and a book that have passed all rules before 11;
@@ -39,10 +40,14 @@ static hplog_answer find_block(const input *log, uint8_t *rows, size_t length, c
         if (stored.number != 0)
             return stored;
         hplog_answer plain = hplog_book_part(book->bytes, book->length, at);
+        if (plain.number != 0)
+            return plain;
         hplog_answer entries = hplog_check_block(log->bytes, log->length, stored.place - HPLOG_BLOCK_HEADER,
                                                  book->bytes + plain.place, (size_t)plain.count, (uint32_t)names.count);
-        if (entries.number != 0)
+        if (entries.number == 11)
             return (hplog_answer){.count = i};
+        if (entries.number != 0)
+            return entries;
         at = plain.place + plain.count;
     }
 }

@@ -13,8 +13,8 @@ typedef struct {
     size_t length;
 } book_part;
 
-/* Finds the plain dictionary of a book whose number of blocks is not known. The answer is that of hplog_book_parts; on
- * a refusal there is no dictionary. */
+/* Finds the plain dictionary of a book whose number of blocks is not known. The answer is that of hplog_book_parts or,
+ * where that accepts the book, of hplog_book_part; on a refusal there is no dictionary. */
 hplog_answer book_dictionary(const input *book, book_part *dictionary);
 
 /* Prints the refusal of wrong plain entries of a log and book that the library has refused with 11, and names the

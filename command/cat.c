@@ -9,7 +9,7 @@ int command_cat(const arguments *args)
     int status = listing_open(&list, args->operands);
     if (status != STATUS_ACCEPTED)
         return status;
-    listing_print(&list);
+    status = listing_print(&list);
     listing_close(&list);
-    return STATUS_ACCEPTED;
+    return status;
 }

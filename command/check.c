@@ -45,7 +45,7 @@ int command_check(const arguments *args)
         print_plain(&log);
     else
         print_frame(&log);
-    blocks_print(&log.file, log.rows, NULL, log.count, args->is_plain);
+    status = blocks_print(&log.file, log.rows, NULL, log.count, args->is_plain);
     opened_close(&log);
-    return STATUS_ACCEPTED;
+    return status;
 }

@@ -67,20 +67,24 @@ static bool print_piece(const uint8_t *piece, size_t length)
     return fwrite(piece, 1, length, stdout) == length;
 }
 
-void listing_print(listing *list)
+int listing_print(listing *list)
 {
     static uint8_t piece[PIECE];
-    uint64_t done = 0, count;
+    uint64_t done = 0;
+    hplog_answer answer;
     progress_begin("listing");
     do {
         hplog_listed listed = hplog_list_next(list->log.bytes, list->log.length, list->book.bytes, list->book.length,
                                               list->next, piece, sizeof piece);
         list->next = listed.next;
-        count = listed.answer.count;
-        done += count;
+        answer = listed.answer;
+        done += answer.count;
         progress_bytes(done);
-    } while (count > 0 && print_piece(piece, (size_t)count));
+    } while (answer.number == 0 && answer.count > 0 && print_piece(piece, (size_t)answer.count));
     progress_end();
+    if (answer.number != 0)
+        return refused(&list->log, &list->book, answer.number, answer.place);
+    return STATUS_ACCEPTED;
 }
 
 void listing_close(listing *list)

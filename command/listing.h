@@ -19,8 +19,8 @@ int listing_open(listing *list, char *const *paths);
 /* The same for the entries of a range of times alone, of which the first is not above the second. */
 int listing_open_range(listing *list, char *const *paths, uint64_t t1, uint64_t t2);
 
-/* Prints the listing, as far as standard output takes it. */
-void listing_print(listing *list);
+/* Prints the listing, as far as standard output takes it; gives the exit status back. */
+int listing_print(listing *list);
 
 void listing_close(listing *list);
 

@@ -10,12 +10,16 @@
 
 #include <stdio.h>
 
-/* Goes from name to name in a dictionary that hplog_names has accepted. hplog_name would check it again for each. */
-static void print_names(const book_part *dictionary, uint64_t count, bool is_plain)
+/* Goes from name to name in a dictionary that hplog_names has accepted. hplog_name would check it again for each. The
+ * answer is that of the last call. */
+static hplog_answer print_names(const book_part *dictionary, uint64_t count, bool is_plain)
 {
+    hplog_answer name = {0};
     uint64_t at = HPLOG_FIRST_NAME;
     for (uint64_t i = 0; i < count; i++) {
-        hplog_answer name = hplog_name_at(dictionary->bytes, dictionary->length, at);
+        name = hplog_name_at(dictionary->bytes, dictionary->length, at);
+        if (name.number != 0)
+            break;
         const uint8_t *bytes = dictionary->bytes + name.place;
         printf(is_plain ? "name %llu " : "%5llu  ", (unsigned long long)i);
         if (is_plain)
@@ -25,6 +29,7 @@ static void print_names(const book_part *dictionary, uint64_t count, bool is_pla
         putchar('\n');
         at = name.place + name.count;
     }
+    return name;
 }
 
 static int names(const input *book, bool is_plain)
@@ -47,8 +52,10 @@ static int names(const input *book, bool is_plain)
     if (!is_plain)
         printf(": %s %s", text_number(answer.count, text), answer.count == 1 ? "name" : "names");
     putchar('\n');
-    print_names(&dictionary, answer.count, is_plain);
+    answer = print_names(&dictionary, answer.count, is_plain);
     progress_end();
+    if (answer.number != 0)
+        return words_refused_book(book->name, answer.number, answer.place);
     return STATUS_ACCEPTED;
 }
 

@@ -18,15 +18,15 @@ static void print_count(const opened *log, size_t found)
 
 static int query(const opened *log, uint64_t t1, uint64_t t2, bool is_plain)
 {
-    size_t found;
-    uint8_t *numbers = blocks_choose(&log->file, log->rows, log->count, t1, t2, &found);
-    if (numbers == NULL)
-        return STATUS_ERROR;
+    blocks_chosen chosen;
+    int status = blocks_choose(&log->file, log->rows, log->count, t1, t2, &chosen);
+    if (status != STATUS_ACCEPTED)
+        return status;
     if (!is_plain)
-        print_count(log, found);
-    blocks_print(&log->file, log->rows, numbers, found, is_plain);
-    free(numbers);
-    return STATUS_ACCEPTED;
+        print_count(log, chosen.count);
+    status = blocks_print(&log->file, log->rows, chosen.numbers, chosen.count, is_plain);
+    free(chosen.numbers);
+    return status;
 }
 
 int command_query(const arguments *args)

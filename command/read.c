@@ -12,7 +12,7 @@ int command_read(const arguments *args)
         status = listing_open_range(&list, args->operands, args->from, args->to);
     if (status != STATUS_ACCEPTED)
         return status;
-    listing_print(&list);
+    status = listing_print(&list);
     listing_close(&list);
-    return STATUS_ACCEPTED;
+    return status;
 }

@@ -15,15 +15,17 @@ typedef struct {
     uint64_t end, number, place, is_dictionary;
 } report;
 
-static void print_plain(const input *log, const uint8_t *rows, size_t count, const report *found)
+static int print_plain(const input *log, const uint8_t *rows, size_t count, const report *found)
 {
     printf("file %zu %zu %llu %llu\n", log->length, count, (unsigned long long)found->end,
            (unsigned long long)found->is_dictionary);
-    blocks_print(log, rows, NULL, count, true);
-    printf("stop %llu %llu\n", (unsigned long long)found->number, (unsigned long long)found->place);
+    int status = blocks_print(log, rows, NULL, count, true);
+    if (status == STATUS_ACCEPTED)
+        printf("stop %llu %llu\n", (unsigned long long)found->number, (unsigned long long)found->place);
+    return status;
 }
 
-static void print_table(const input *log, const uint8_t *rows, size_t count, const report *found)
+static int print_table(const input *log, const uint8_t *rows, size_t count, const report *found)
 {
     char a[TEXT_NUMBER], b[TEXT_NUMBER];
     text_path(stdout, log->name);
@@ -37,7 +39,7 @@ static void print_table(const input *log, const uint8_t *rows, size_t count, con
     else
         words_log(stdout, log, found->number, found->place);
     putchar('\n');
-    blocks_print(log, rows, NULL, count, false);
+    return blocks_print(log, rows, NULL, count, false);
 }
 
 static int recover(const input *log, uint8_t *rows, size_t length, bool is_plain)
@@ -49,11 +51,8 @@ static int recover(const input *log, uint8_t *rows, size_t length, bool is_plain
     if (answer.number != 0)
         return words_refused_log(log, answer.number, answer.place);
     report found = {bytes_u64(bytes), bytes_u64(bytes + 8), bytes_u64(bytes + 16), bytes_u64(bytes + 24)};
-    if (is_plain)
-        print_plain(log, rows, (size_t)answer.count, &found);
-    else
-        print_table(log, rows, (size_t)answer.count, &found);
-    return STATUS_ACCEPTED;
+    return is_plain ? print_plain(log, rows, (size_t)answer.count, &found)
+                    : print_table(log, rows, (size_t)answer.count, &found);
 }
 
 int command_recover(const arguments *args)

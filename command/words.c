@@ -178,3 +178,19 @@ int words_refused_book(const char *name, uint64_t number, uint64_t place)
     default: return words_refused(name, number, place, "the plain dictionary is wrong, byte %s of it");
     }
 }
+
+int words_refused_query(const char *name, uint64_t number, uint64_t place)
+{
+    switch (number) {
+    case 7: return words_refused(name, number, place, "its rows are out of order from row %s on");
+    case 13: return words_refused(name, number, place, "the first time is above the second");
+    default: return words_refused(name, number, place, "its rows are cut or too many, %s");
+    }
+}
+
+int words_refused_block(const input *log, uint64_t number, uint64_t place)
+{
+    if (number == 14)
+        return words_refused(log->name, number, place, "there is no block %s");
+    return words_refused_log(log, number, place);
+}

@@ -20,4 +20,10 @@ int words_refused(const char *name, uint64_t number, uint64_t place, const char 
 /* The same for the 2, 3 and 6 of a plain book's own rules and the 10 of its dictionary. */
 int words_refused_book(const char *name, uint64_t number, uint64_t place);
 
+/* The same for the 13 of two times, and the 6 and 7 of a log's rows. */
+int words_refused_query(const char *name, uint64_t number, uint64_t place);
+
+/* The same for the 14 of a block that is not there, and the 6 of its header. */
+int words_refused_block(const input *log, uint64_t number, uint64_t place);
+
 #endif

@@ -4,6 +4,7 @@ import os
 import pty
 import re
 import select
+import signal
 import subprocess
 import sys
 import time
@@ -56,6 +57,19 @@ class Terminal:
         text = self.until(NEVER)
         os.close(self.master)
         return text.replace(b"\r\n", b"\n")
+
+
+def held(process):
+    """How many bytes of memory the command has."""
+    with open(f"/proc/{process.pid}/statm") as pages:
+        return int(pages.read().split()[1]) * os.sysconf("SC_PAGE_SIZE")
+
+
+def stop_within(process, resident):
+    """Stops the command in the midst of a file, once it holds so many bytes in memory."""
+    while process.poll() is None and held(process) < resident:
+        time.sleep(0.001)
+    process.send_signal(signal.SIGSTOP)
 
 
 @dataclass

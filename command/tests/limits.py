@@ -4,9 +4,11 @@ import ctypes
 import os
 import resource
 import signal
+import struct
 import time
 
-from logs import UNCLOSED, WHOLE, maker, write_long_text, write_zeros
+from harness import stop_within
+from logs import UNCLOSED, WHOLE, close_zeros, maker, write_long_text, write_zeros
 
 GIB = 1 << 30
 
@@ -74,6 +76,23 @@ def shortened(suite):
     suite.holds("a file that becomes shorter", answer == (2, b"", line), repr(answer))
 
 
+def changed(suite):
+    """An index that is changed once its first row has been checked: what is wrong with the rows then is no answer."""
+    log = suite.path("changed.hplog")
+    write_zeros(log, 3, GIB)
+    rows = close_zeros(log, 3, GIB)
+    process = suite.start("query", "--plain", log, "0", "9")
+    stop_within(process, GIB + (64 << 20))
+    with open(log, "r+b") as file:
+        file.seek(rows + 8)  # the end of the first block, which is then above the start of the second
+        file.write(struct.pack("<Q", 5))
+    process.send_signal(signal.SIGCONT)
+    out, err = process.communicate()
+    answer = (process.returncode, out, err)
+    line = f"hplog: refused 7 1: {log}: its rows are out of order from row 1 on\n".encode()
+    suite.holds("an index that is changed", answer == (1, b"", line), repr(answer))
+
+
 def without_override():
     """Takes from root what lets it read and write everything; others have it not."""
     prctl, drop_from_bounding_set, dac_override, dac_read_search = ctypes.CDLL(None).prctl, 24, 1, 2
@@ -96,4 +115,4 @@ def forbidden(suite):
     suite.holds("nothing is written", names == (["closed.hplog", "cut.hplog", "locked"], []), str(names))
 
 
-GROUPS = [sparse, skipped, memory, shortened, forbidden]
+GROUPS = [sparse, skipped, memory, shortened, changed, forbidden]

@@ -111,6 +111,18 @@ def write_zeros(path, blocks, size):
         file.truncate()
 
 
+def close_zeros(path, blocks, size):
+    """Closes such a file; gives back where the rows of its index stand."""
+    dictionary = 64 + blocks * (36 + size)
+    rows = b"".join(struct.pack("<QQQI", k, k, 64 + k * (36 + size), size) for k in range(blocks))
+    with open(path, "r+b") as file:
+        file.write(maker.header(dictionary, blocks, 0, blocks - 1))
+        file.seek(dictionary)
+        file.write(struct.pack("<IB", 1, 0) + b"HPLG_IDX" + struct.pack("<Q", blocks) + rows)
+        file.write(b"HPLG_END" + struct.pack("<Q", dictionary + 5) + bytes(8))
+    return dictionary + 5 + 16
+
+
 def write_long_text(log, book, size, plains=()):
     """A log and its sparse book: blocks of these plain bytes, each one entry at 1001, 1002 and so on; before and after
     them a block of an entry with a text of so many zero bytes, at 1000 and as the last one, and of an entry without

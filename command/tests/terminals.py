@@ -6,6 +6,7 @@ import signal
 import subprocess
 import time
 
+from harness import stop_within
 from logs import BOOK, D, WHOLE, patched, write_long_text, write_zeros
 
 HALF_SECOND = 0.5
@@ -33,32 +34,20 @@ def colours(suite):
     suite.holds("a listing has no colours", suite.terminal("cat", log, book) == (0, suite.run("cat", log, book).out))
 
 
-def halted(process, resident):
-    """Stops the command in the midst of a file, once it holds so many bytes in memory, and leaves the clock running for
-    a second."""
-    while process.poll() is None and held(process) < resident:
-        time.sleep(0.001)
-    process.send_signal(signal.SIGSTOP)
-    time.sleep(2 * HALF_SECOND)
-
-
-def held(process):
-    with open(f"/proc/{process.pid}/statm") as pages:
-        return int(pages.read().split()[1]) * os.sysconf("SC_PAGE_SIZE")
-
-
 def calling(suite):
     """A call that takes longer than half a second, whatever the machine: the command is halted in it."""
     slow = suite.path("slow.hplog")
     write_zeros(slow, 3, 1 << 30)
     process, terminal = suite.start_on_terminal("recover", "--plain", slow)
-    halted(process, 64 << 20)
+    stop_within(process, 64 << 20)
+    time.sleep(2 * HALF_SECOND)
     process.send_signal(signal.SIGCONT)
     text = terminal.rest()
     suite.holds("progress on a terminal", process.wait() == 0 and shows(text, b"recovering"), repr(text))
     suite.holds("which is removed", CLEARED + f"file {os.path.getsize(slow)} 3 ".encode() in text, repr(text))
     process, terminal = suite.start_on_terminal("recover", slow)
-    halted(process, 64 << 20)
+    stop_within(process, 64 << 20)
+    time.sleep(2 * HALF_SECOND)
     os.truncate(slow, 4096)
     process.send_signal(signal.SIGCONT)
     text = terminal.rest()
