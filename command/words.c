@@ -107,7 +107,7 @@ static const char *agreement_words(const input *log, uint64_t place, location *a
     uint64_t index = dictionary + 4 + bytes_u32(log->bytes + dictionary);
     if (place < index + INDEX_ROWS)
         return "the index counts other blocks than the header";
-    at->block = (place - index - INDEX_ROWS) / HPLOG_ROW;
+    at->block = (place - index - INDEX_ROWS) / HPLOG_INDEX_ROW;
     *is_block = true;
     return "index differs";
 }

@@ -41,7 +41,8 @@ extern "C" {
 
 #define HPLOG_HEADER 64       /* bytes of a file's header, and where its first block starts */
 #define HPLOG_BLOCK_HEADER 36 /* bytes of a block's header, in front of its stored bytes */
-#define HPLOG_ROW 28          /* bytes of a row: u64 start, end and offset of the block's header, u32 stored size */
+#define HPLOG_ROW 32          /* bytes of a row, see hplog_open */
+#define HPLOG_INDEX_ROW 28    /* bytes of a row in a file's index, which has no number */
 #define HPLOG_FRAME 40        /* bytes of a frame, see hplog_open */
 #define HPLOG_REPORT 32       /* bytes of a report, see hplog_recover */
 #define HPLOG_PANEL 16        /* bytes of a panel, see hplog_label */
@@ -61,6 +62,8 @@ typedef struct {
 /* ---- a file ---- */
 
 /* Opens a finished file: checks all of it, writes its rows to rows and its frame to frame; count = rows.
+ * A row: u64 start, u64 end, u64 offset of the block's header, u32 stored size, u32 number of the block, which is the
+ * row's position: 0, 1, 2 and so on. Rows stand end to end. No call looks at the number of a row that it is lent.
  * A frame: five u64: place of the dictionary's length field, the dictionary's stored size, place of the index, first
  * time, last time.
  * rows may have any length; what is after its rows stays as it is.
@@ -70,7 +73,7 @@ hplog_answer hplog_open(const uint8_t *log, size_t log_len, uint8_t *rows, size_
 
 /* Lists the blocks that meet the times from t1 to t2 (a row's end at least t1, its start at most t2): writes their
  * numbers, ascending, as u32 each to numbers; count = numbers. All of rows are rows.
- * Refusals in order: (13, t1) where t1 is above t2; (6, rows_len) where it is no multiple of 28; (6, rows) above 4,096
+ * Refusals in order: (13, t1) where t1 is above t2; (6, rows_len) where it is no multiple of 32; (6, rows) above 4,096
  * rows; (7, row) for the first row that ends below its start or starts below the end before; 12. */
 hplog_answer hplog_query(const uint8_t *rows, size_t rows_len, uint64_t t1, uint64_t t2, uint8_t *numbers,
                          size_t numbers_len);
@@ -106,7 +109,7 @@ typedef struct {
 } hplog_block_answer;
 
 /* Reads the header of block i of a file by its rows, which are those that hplog_open or hplog_recover wrote,
- * rows_len / 28 of them. On a refusal all but number and place is 0.
+ * rows_len / 32 of them. On a refusal all but number and place is 0.
  * Refusals in order: (14, i) where there is no row i; (6, its offset) where the file ends within the header. */
 hplog_block_answer hplog_block(const uint8_t *log, size_t log_len, const uint8_t *rows, size_t rows_len, uint64_t i);
 
@@ -292,8 +295,8 @@ hplog_written hplog_add_block(hplog_writer state, uint8_t *rows, size_t rows_len
                               size_t stored_len, uint32_t names);
 
 /* Closes the file: count = the bytes of its last four stores, 64 of header, then dictionary, index and footer. rows are
- * those that add_block left, plain is the plain dictionary, stored its stored bytes. Other rows make a file that
- * hplog_open refuses with 9.
+ * those that add_block left, plain is the plain dictionary, stored its stored bytes. Rows that differ from those, but
+ * for their numbers, make a file that hplog_open refuses with 9.
  * Refusals in order: 17 (also for rows too short for the blocks); (6, stored_len) above 32 bits; (6, 0) for empty
  * stored; 10; (6, names) for fewer names than a block was given; 12. */
 hplog_written hplog_close(hplog_writer state, const uint8_t *rows, size_t rows_len, uint8_t *out, size_t out_len,

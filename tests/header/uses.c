@@ -157,6 +157,7 @@ static void small_file(void) {
     put_field(fields + HPLOG_FIELD, 1, 4, 0, 0);
     written = calls.add_entry(written.next, plain, sizeof plain, 1005, fields, sizeof fields, letters, sizeof letters);
     check(accepted(written.answer, 0) && written.next.plain == sizeof plain, "add_entry of the second");
+    memset(rows, 0x5A, sizeof rows);
     written = calls.add_block(written.next, rows, sizeof rows, log + HPLOG_HEADER, HPLOG_BLOCK_HEADER + sizeof stored,
                               1000, plain, sizeof plain, stored, sizeof stored, 2);
     check(accepted(written.answer, HPLOG_BLOCK_HEADER + sizeof stored), "add_block");
@@ -174,6 +175,8 @@ static void small_file(void) {
 
     check(accepted(calls.open(log, sizeof log, table, sizeof table, frame, sizeof frame), 1), "open");
     check(memcmp(rows, table, sizeof rows) == 0, "open gives the writer's rows");
+    check(memcmp(rows, log + 124, HPLOG_INDEX_ROW) == 0, "a row begins with that of the index");
+    check(memcmp(rows + HPLOG_INDEX_ROW, "\0\0\0\0", HPLOG_ROW - HPLOG_INDEX_ROW) == 0, "and ends with its number");
     check(frame[0] == 103 && frame[8] == 1 && frame[16] == 108, "open's frame");
     memset(room, 0x5A, sizeof room);
     check(accepted(calls.open(log, sizeof log, room, sizeof room, frame, sizeof frame), 1), "open with room to spare");
@@ -240,6 +243,7 @@ static void small_file(void) {
     check(accepted(piece.answer, 23) && memcmp("1005 site=s:\"B7\" wet=n\n", out, 23) == 0, "list_next of a range");
     piece = calls.list_range(log, sizeof log, book, sizeof book, 1001, 1000);
     check(refused(piece.answer, 13, 1001), "list_range, reversed");
+    check(refused(calls.query(rows, HPLOG_INDEX_ROW, 0, 9, numbers, sizeof numbers), 6, 28), "query of a cut row");
     check(HPLOG_BLOCKS == 4096, "the most blocks");
 }
 

@@ -3,7 +3,8 @@
 use crate::random::Random;
 use crate::records::Writer;
 use crate::reference::{
-    self, put, value_at, Field, Range, Value, BLOCKS, BLOCK_HEADER, CHARACTERS, FOOTER, HEADER, INDEX_HEADER, ROW, TAIL,
+    self, put, value_at, Field, Range, Value, BLOCKS, BLOCK_HEADER, CHARACTERS, FOOTER, HEADER, INDEX_HEADER,
+    INDEX_ROW, ROW, TAIL,
 };
 
 /// A field as it was meant: `text` is of strings and JSON, `bits` of the others.
@@ -403,11 +404,21 @@ fn log(blocks: &[MadeBlock], dictionary: &[u8], stored: &[u8], names: u32) -> Ve
             accepted(reference::add_block(state, &mut rows, &mut out, block.start, &block.plain, &block.stored, names));
         log.extend(out);
     }
-    let mut out = vec![0; HEADER + 4 + stored.len() + INDEX_HEADER + ROW * blocks.len() + FOOTER];
+    let mut out = vec![0; HEADER + 4 + stored.len() + INDEX_HEADER + INDEX_ROW * blocks.len() + FOOTER];
     accepted(reference::close(state, &rows, &mut out, dictionary, stored));
     log[..HEADER].copy_from_slice(&out[..HEADER]);
     log.extend(&out[HEADER..]);
     log
+}
+
+/// Rows in memory, by chance with other numbers, which no call looks at.
+pub fn renumbered(random: &mut Random, mut rows: Vec<u8>) -> Vec<u8> {
+    if random.once_in(3) {
+        for row in rows.chunks_exact_mut(ROW) {
+            put(row, INDEX_ROW, 4, random.edge());
+        }
+    }
+    rows
 }
 
 /// What is made here is valid, so that a refusal is a fault of these tests.
@@ -441,7 +452,7 @@ fn layout(made: &MadeFile) -> Layout {
         at += BLOCK_HEADER + block.stored.len();
     }
     let index = at + 4 + made.stored.len();
-    Layout { blocks, dictionary: at, index, footer: index + INDEX_HEADER + ROW * made.blocks.len() }
+    Layout { blocks, dictionary: at, index, footer: index + INDEX_HEADER + INDEX_ROW * made.blocks.len() }
 }
 
 /// A value for a field that holds `old`; its low bytes are written.
@@ -465,7 +476,7 @@ fn damage_field(random: &mut Random, log: &mut [u8], layout: &Layout) {
     let row: [(usize, usize); 4] = [(0, 8), (8, 8), (16, 8), (24, 4)];
     let some_block = |random: &mut Random| if layout.blocks.is_empty() { 0 } else { random.below(layout.blocks.len()) };
     let which = some_block(random);
-    let row_at = layout.index + INDEX_HEADER + ROW * which;
+    let row_at = layout.index + INDEX_HEADER + INDEX_ROW * which;
     let mut partner = None;
     let (at, width) = match random.below(6) {
         0 => {

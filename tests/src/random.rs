@@ -47,7 +47,7 @@ impl Random {
     pub fn edge(&mut self) -> u64 {
         match self.below(6) {
             0 => self.below(40) as u64,
-            1 => self.pick(&[27, 28, 35, 36, 63, 64, 65, 127, 128, 255, 256, 4095, 4096, 4097, 65_535, 65_536]),
+            1 => self.pick(&[27, 28, 31, 32, 35, 36, 63, 64, 65, 127, 128, 255, 256, 4095, 4096, 4097, 65_535, 65_536]),
             2 => (1u64 << self.below(64)).wrapping_sub(self.below(3) as u64).wrapping_add(1),
             3 => u64::MAX - self.below(70) as u64,
             4 => u64::from(u32::MAX) - 40 + self.below(80) as u64,

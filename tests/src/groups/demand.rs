@@ -8,7 +8,7 @@ use crate::edge;
 use hplog_tests::make::{self, MadeBlock, MadeEntry, MadeField, MadeFile};
 use hplog_tests::random::Random;
 use hplog_tests::records::{Answer, Cursor, FieldStep};
-use hplog_tests::reference::{self, put, Row, BLOCK_HEADER, FOOTER, HEADER, INDEX_HEADER, ROW};
+use hplog_tests::reference::{self, put, Row, BLOCK_HEADER, FOOTER, HEADER, INDEX_HEADER, INDEX_ROW, ROW};
 
 /// A store of the writer: where it goes, and its bytes.
 struct Store {
@@ -26,7 +26,7 @@ struct Run {
 /// The parts of closing's output: header, dictionary, index and footer.
 fn closing_stores(out: &[u8], stored: usize, blocks: usize) -> Vec<Store> {
     let mut at = 0;
-    let lengths = [HEADER, 4 + stored, INDEX_HEADER + ROW * blocks, FOOTER];
+    let lengths = [HEADER, 4 + stored, INDEX_HEADER + INDEX_ROW * blocks, FOOTER];
     lengths
         .into_iter()
         .enumerate()
@@ -191,7 +191,7 @@ fn rows_of(blocks: &[MadeBlock]) -> (Vec<u8>, u64) {
     let mut rows = vec![0; ROW * blocks.len()];
     let mut offset = HEADER as u64;
     for (i, block) in blocks.iter().enumerate() {
-        Row { start: block.start, end: block.end, offset, size: block.stored.len() as u32 }.put(&mut rows, ROW * i);
+        Row { start: block.start, end: block.end, offset, size: block.stored.len() as u32 }.hold(&mut rows, i);
         offset += (BLOCK_HEADER + block.stored.len()) as u64;
     }
     (rows, offset)
@@ -310,7 +310,7 @@ fn after_cut(check: &mut Check, random: &mut Random, run: &Run, cut: usize, shor
     let blocks = whole.saturating_sub(1).min(run.made.blocks.len());
     let dictionary_whole = whole >= run.made.blocks.len() + 3;
     let (expected, end) = rows_of(&run.made.blocks[..blocks]);
-    let mut outputs = [expected.len() + 28 * random.below(2), 32].map(|length| filled(random, length));
+    let mut outputs = [expected.len() + ROW * random.below(2), 32].map(|length| filled(random, length));
     let lent_rows = outputs[0].clone();
     let answer = check.call(
         &format!("recover after a cut at {cut}"),

@@ -54,7 +54,7 @@ fn unclosed(random: &mut Random, mut log: Vec<u8>) -> Vec<u8> {
 
 pub fn open(check: &mut Check, random: &mut Random) {
     each_log(random, |random, log| {
-        let need = reference::opened(log).map_or(28 * random.below(3), |(rows, _)| ROW * rows.len());
+        let need = ROW * reference::opened(log).map_or(random.below(3), |(rows, _)| rows.len());
         let mut outputs = [awkward(random, need), awkward(random, 40)].map(|length| filled(random, length));
         check.call(
             "open",
@@ -149,8 +149,9 @@ pub fn query(check: &mut Check, random: &mut Random) {
     let rows = rows(random);
     let mut bytes = vec![0; ROW * rows.len()];
     for (i, row) in rows.iter().enumerate() {
-        row.put(&mut bytes, ROW * i);
+        row.hold(&mut bytes, i);
     }
+    let mut bytes = make::renumbered(random, bytes);
     if random.once_in(12) {
         bytes.truncate(random.below(bytes.len() + 1));
     }
@@ -182,6 +183,7 @@ fn parts_of(random: &mut Random, log: &[u8]) -> (Vec<u8>, Vec<u8>) {
     let count = reference::opened(log).map_or(0, |(rows, _)| rows.len());
     let (mut rows, mut frame) = (vec![0; ROW * count], vec![0; 40]);
     reference::open(log, &mut rows, &mut frame);
+    let mut rows = make::renumbered(random, rows);
     if random.once_in(3) {
         for (table, fields) in [(&mut rows, &[(16, 8), (24, 4)]), (&mut frame, &[(0, 8), (8, 8)])] {
             let (at, width) = random.pick(fields);

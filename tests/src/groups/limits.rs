@@ -7,7 +7,7 @@ use crate::guard::{self, Side};
 use hplog_tests::make;
 use hplog_tests::random::Random;
 use hplog_tests::records::{Cursor, Writer, Written};
-use hplog_tests::reference::{self, BLOCKS, FIELD, HEADER, NAMES};
+use hplog_tests::reference::{self, BLOCKS, FIELD, HEADER, NAMES, ROW};
 use std::sync::OnceLock;
 
 pub fn states(check: &mut Check, random: &mut Random) {
@@ -198,7 +198,7 @@ pub fn large(check: &mut Check, random: &mut Random) {
             |report| reference::recover(lent, &mut [], report),
             |report| edge::recover(lent, &mut [], report),
         );
-        let rows = &zeros[..length - length % 28];
+        let rows = &zeros[..length - length % ROW];
         both(
             check,
             "query",
@@ -236,8 +236,8 @@ pub fn large(check: &mut Check, random: &mut Random) {
         if length >= LIMIT {
             let add = |stored: &'static [u8], plain: &'static [u8]| {
                 (
-                    move |out: &mut [u8]| reference::add_block(begun, &mut [0; 28], out, 0, plain, stored, 0),
-                    move |out: &mut [u8]| edge::add_block(begun, &mut [0; 28], out, 0, plain, stored, 0),
+                    move |out: &mut [u8]| reference::add_block(begun, &mut [0; ROW], out, 0, plain, stored, 0),
+                    move |out: &mut [u8]| edge::add_block(begun, &mut [0; ROW], out, 0, plain, stored, 0),
                 )
             };
             for (stored, plain) in [(lent, &[0, 0][..]), (&[][..], lent), (lent, lent)] {

@@ -165,6 +165,7 @@ impl Calls {
     ) -> (Answer, Vec<u8>) {
         let state = self.state;
         let rows = held_in(random, &self.rows, rows);
+        let rows = make::renumbered(random, rows);
         let need = needed(random, reference::close(state, &rows, &mut [], plain, stored).answer);
         let mut outputs = [room.length(random, need)].map(|length| filled(random, length));
         let written = check.call(

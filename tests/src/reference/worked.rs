@@ -13,7 +13,7 @@ const DICTIONARY: &[u8] = b"\x02\0\0\0\0\0\x04\0site\x01\0\x03\0wet";
 
 /// The stores of the small file: first header, block, and the four of closing.
 fn small_stores() -> (Vec<u8>, Vec<u8>, Vec<u8>) {
-    let (mut first, mut block, mut last, mut rows) = (vec![0; 64], vec![0; 39], vec![0; 137], vec![0; 28]);
+    let (mut first, mut block, mut last, mut rows) = (vec![0; 64], vec![0; 39], vec![0; 137], vec![0; ROW]);
     let begun = begin(writer_new(), &mut first);
     let added = add_block(begun.next, &mut rows, &mut block, 1000, &PLAIN, &STORED, 2);
     let closed = close(added.next, &rows, &mut last, DICTIONARY, &[0x5A]);
@@ -37,8 +37,8 @@ fn record(id: u64, kind: u64, bits: u64, length: u64) -> [u8; FIELD] {
 }
 
 fn chosen(t1: u64, t2: u64) -> Vec<u64> {
-    let mut rows = [0; 28];
-    Row { start: 1000, end: 1005, offset: 64, size: 3 }.put(&mut rows, 0);
+    let mut rows = [0; ROW];
+    Row { start: 1000, end: 1005, offset: 64, size: 3 }.hold(&mut rows, 0);
     let mut numbers = [0xEE; 4];
     let answer = query(&rows, t1, t2, &mut numbers);
     assert_eq!(answer.number, 0);
@@ -154,7 +154,7 @@ fn k9_the_small_file_cut() {
     let (first, block, _) = small_stores();
     let unclosed = [first, block].concat();
     for (length, blocks) in [(102, 0), (103, 1)] {
-        let mut rows = [0; 28];
+        let mut rows = [0; ROW];
         let mut report = [0; 32];
         let answer = recover(&unclosed[..length], &mut rows, &mut report);
         assert_eq!((answer.number, answer.count), (0, blocks));
@@ -174,8 +174,10 @@ fn the_small_file() {
 fn the_small_file_in_parts() {
     let found = |place, count| Answer { number: 0, place, count };
     let file = small_file();
-    let (mut rows, mut frame) = ([0; 28], [0; 40]);
+    let (mut rows, mut frame) = ([0xEE; ROW], [0; 40]);
     assert_eq!(open(&file, &mut rows, &mut frame).number, 0);
+    let fields: Vec<u64> = [(0, 8), (8, 8), (16, 8), (24, 4), (28, 4)].map(|(at, n)| value_at(&rows, at, n)).into();
+    assert_eq!(fields, [1000, 1005, 64, 3, 0]);
     assert_eq!(stored(&file, &rows, 0), found(100, 3));
     assert_eq!(stored(&file, &rows, 1), Answer { number: 14, place: 1, count: 0 });
     assert_eq!(dictionary(&file, &frame), found(107, 1));
@@ -192,6 +194,56 @@ fn the_small_file_in_parts() {
     assert_eq!(book_parts(&plain), found(35, 2));
     assert_eq!(book_part(&plain, FIRST as u64), found(9, 26));
     assert_eq!(book_part(&plain, 35), found(39, 19));
+}
+
+/// Three blocks without stored bytes: their rows in memory, and the file.
+fn three_blocks() -> (Vec<u8>, Vec<u8>) {
+    let (mut rows, mut log, mut last) = (vec![0xEE; 3 * ROW], vec![0; 64], vec![0; 64 + 5 + 16 + 3 * 28 + 24]);
+    let mut state = begin(writer_new(), &mut log).next;
+    for start in 1..=3 {
+        let mut block = [0; 36];
+        state = add_block(state, &mut rows, &mut block, start, &[0, 0], &[], 0).next;
+        log.extend(block);
+    }
+    let closed = close(state, &rows, &mut last, &[0; 4], &[0]);
+    assert_eq!(closed.answer.count, last.len() as u64);
+    let mut other = vec![0; last.len()];
+    close(state, &renumbered(&rows), &mut other, &[0; 4], &[0]);
+    assert_eq!(other, last);
+    (rows, [&last[..64], &log[64..], &last[64..]].concat())
+}
+
+fn renumbered(rows: &[u8]) -> Vec<u8> {
+    let mut other = rows.to_vec();
+    for row in other.chunks_mut(ROW) {
+        put(row, 28, 4, 7);
+    }
+    other
+}
+
+#[test]
+fn a_row_in_memory_has_the_number_of_its_block() {
+    let (rows, file) = three_blocks();
+    assert_eq!([28, 60, 92].map(|at| value_at(&rows, at, 4)), [0, 1, 2]);
+    let (mut opened, mut recovered) = (vec![0xEE; 3 * ROW], vec![0xEE; 3 * ROW]);
+    assert_eq!(open(&file, &mut opened, &mut [0; 40]).count, 3);
+    assert_eq!(recover(&file, &mut recovered, &mut [0; 32]).count, 3);
+    assert_eq!((&opened, &recovered), (&rows, &rows));
+    let short = Answer { number: 12, place: 96, count: 0 };
+    assert_eq!(open(&file, &mut opened[1..], &mut [0; 40]), short);
+    assert_eq!(recover(&file, &mut opened[1..], &mut [0; 32]), short);
+}
+
+#[test]
+fn no_call_looks_at_the_number_of_a_row() {
+    let (rows, file) = three_blocks();
+    let other = renumbered(&rows);
+    let mut numbers = [0; 8];
+    assert_eq!(query(&other, 2, 9, &mut numbers).count, 2);
+    assert_eq!([0, 4].map(|at| value_at(&numbers, at, 4)), [1, 2]);
+    assert_eq!(query(&other[..84], 2, 9, &mut numbers), Answer { number: 6, place: 84, count: 0 });
+    assert_eq!(block_header(&file, &other, 2), block_header(&file, &rows, 2));
+    assert_eq!(stored(&file, &other, 2), stored(&file, &rows, 2));
 }
 
 #[test]

@@ -7,18 +7,17 @@ use crate::writing::record;
 use hplog_tests::make;
 use hplog_tests::random::Random;
 use hplog_tests::records::Writer;
-use hplog_tests::reference;
+use hplog_tests::reference::{self, Row, BLOCKS, INDEX_ROW, ROW};
 use std::hint::black_box;
 
 const KIB: usize = 1 << 10;
 const MIB: usize = 1 << 20;
-const ROWS: usize = 28 * 4096;
 
 /// A file of so many bytes in so many blocks of one entry each, closed or cut before its closing.
 fn log(size: usize, blocks: usize, closed: bool) -> Vec<u8> {
     let stored = Random::new(1, 0, 0).bytes(size / blocks - 36);
     let mut log = vec![0; 64];
-    let mut rows = vec![0; ROWS];
+    let mut rows = vec![0; ROW * BLOCKS];
     let mut state = reference::begin(reference::writer_new(), &mut log).next;
     for number in 0..blocks {
         let at = log.len();
@@ -28,7 +27,7 @@ fn log(size: usize, blocks: usize, closed: bool) -> Vec<u8> {
         state = written.next;
     }
     if closed {
-        let mut out = vec![0; 64 + 5 + 16 + ROWS + 24];
+        let mut out = vec![0; 64 + 5 + 16 + INDEX_ROW * blocks + 24];
         let answer = reference::close(state, &rows, &mut out, &[0; 4], &[0]).answer;
         assert_eq!(answer.number, 0);
         log[..64].copy_from_slice(&out[..64]);
@@ -76,7 +75,7 @@ const FILES: [(usize, usize); 9] = [
 ];
 
 pub fn open_recover_repair(lines: &mut Vec<Line>) {
-    let (mut rows, mut record) = (vec![0; ROWS], [0; 40]);
+    let (mut rows, mut record) = (vec![0; ROW * BLOCKS], [0; 40]);
     for (size, blocks) in FILES {
         let closed = log(size, blocks, true);
         assert_eq!(edge::open(&closed, &mut rows, &mut record).number, 0);
@@ -109,11 +108,11 @@ pub fn open_recover_repair(lines: &mut Vec<Line>) {
 
 pub fn query(lines: &mut Vec<Line>) {
     for count in [1usize, 64, 4096] {
-        let rows: Vec<u8> = (0..count as u64)
-            .flat_map(|i| {
-                [1000 * i, 1000 * i + 900, 64 + 36 * i].into_iter().flat_map(u64::to_le_bytes).chain(3u32.to_le_bytes())
-            })
-            .collect();
+        let mut rows = vec![0; ROW * count];
+        for i in 0..count {
+            let at = i as u64;
+            Row { start: 1000 * at, end: 1000 * at + 900, offset: 64 + 36 * at, size: 3 }.hold(&mut rows, i);
+        }
         let (t1, t2) = (250 * count as u64, 750 * count as u64);
         let mut numbers = vec![0; 4 * count];
         let found = peers::query(&rows, t1, t2, &mut numbers);
@@ -185,10 +184,10 @@ fn numbers(fields: usize, names: usize) -> (Vec<u8>, Vec<u8>) {
         state = reference::add_entry(state, &mut plain, 1000, &records, &[]).next;
     }
     plain.truncate(state.plain as usize);
-    let (mut rows, mut out) = ([0; 28], vec![0; 36 + 1]);
+    let (mut rows, mut out) = ([0; ROW], vec![0; 36 + 1]);
     state = reference::add_block(state, &mut rows, &mut out, 1000, &plain, &[0], names as u32).next;
     log.extend(&out);
-    let mut tail = vec![0; 64 + 5 + 16 + 28 + 24];
+    let mut tail = vec![0; 64 + 5 + 16 + INDEX_ROW + 24];
     assert_eq!(reference::close(state, &rows, &mut tail, &dictionary, &[0]).answer.number, 0);
     log[..64].copy_from_slice(&tail[..64]);
     log.extend(&tail[64..]);

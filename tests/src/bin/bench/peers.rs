@@ -1,5 +1,6 @@
 //! The peers that aren't Rust.
 
+use hplog_tests::reference::ROW;
 use std::ffi::{c_uint, c_ulong};
 
 #[link(name = "z")]
@@ -71,6 +72,6 @@ pub fn missing() -> Vec<&'static str> {
 
 /// The numbers of the rows that meet the times, each as four bytes.
 pub fn query(rows: &[u8], t1: u64, t2: u64, numbers: &mut [u8]) -> u64 {
-    assert!(numbers.len() / 4 >= rows.len() / 28, "room for each row's number");
-    unsafe { plain_query(rows.as_ptr(), rows.len() / 28, t1, t2, numbers.as_mut_ptr()) }
+    assert!(numbers.len() / 4 >= rows.len() / ROW, "room for each row's number");
+    unsafe { plain_query(rows.as_ptr(), rows.len() / ROW, t1, t2, numbers.as_mut_ptr()) }
 }

@@ -5,7 +5,7 @@ use crate::measure::{shortest, Line};
 use hplog_tests::make;
 use hplog_tests::random::Random;
 use hplog_tests::records::{Writer, Written};
-use hplog_tests::reference;
+use hplog_tests::reference::{self, ROW};
 use std::hint::black_box;
 
 pub fn dictionary(lines: &mut Vec<Line>) {
@@ -85,7 +85,7 @@ pub fn blocks(lines: &mut Vec<Line>) {
     let begun = reference::begin(reference::writer_new(), &mut [0; 64]).next;
     for size in [64usize, 64 << 10, 16 << 20] {
         let stored = Random::new(1, 0, 0).bytes(size);
-        let (mut rows, mut out) = ([0; 28], vec![0; 36 + size]);
+        let (mut rows, mut out) = ([0; ROW], vec![0; 36 + size]);
         assert_eq!(edge::add_block(begun, &mut rows, &mut out, 5, &[0, 0], &stored, 0).answer.number, 0);
         let ours = shortest(|| {
             black_box(edge::add_block(begun, &mut rows, &mut out, 5, &[0, 0], black_box(&stored), 0));
