@@ -1,32 +1,16 @@
--- Laws of UTF-8 texts: the empty one, two end to end, bytes below 80 hex. Assumes nothing.
+-- Laws of UTF-8 texts: the empty one, a sequence and what follows it, bytes below 80 hex. Assumes nothing.
 use mathlib.Core.Path.{_≡_, refl, ap, _∙_}
-use mathlib.Core.Bool.{true, false, false≢true}
+use mathlib.Core.Bool.{true}
 use mathlib.Core.List.{List, [], _∷_, _++_}
-use Prim.Native.Nat.{ℕ, suc, _<_}
+use Prim.Native.Nat.{ℕ, _<_}
 use native.Mathlib.Omega.{arith}
-use lib.ListN.{length, getD}
-use Rattle.utf8.specs.Utf8.{Range, _to_, within, tails, Sequence, sequences, followers, utf8From, utf8Of}
+use Rattle.utf8.specs.Utf8.{Range, _to_, tails, Sequence, sequences, followers, utf8From, utf8Of}
 use Rattle.utf8.specs.Grammar.{Spells}
-use Rattle.utf8.proofs.Tables.{and-true, in-range, first-00}
+use Rattle.utf8.proofs.Tables.{in-range, first-00}
 
 pub utf8-nil : utf8Of [] ≡ true
 unfolding utf8Of utf8From
 utf8-nil = refl
-
-from-append : (table : List Sequence) (rs : List Range) (a b : List ℕ) → utf8From table rs a ≡ true
-    → utf8From table rs (a ++ b) ≡ utf8From table [] b
-unfolding utf8From
-from-append table [] [] b e = refl
-from-append table [] (x ∷ a) b e = from-append table (followers table x) a b e
-from-append table (r ∷ rs) [] b e = absurd (false≢true e)
-from-append table (r ∷ rs) (x ∷ a) b e =
-    let p = and-true (within r x) (utf8From table rs a) e in
-    rw (p .0) (from-append table rs a b (p .1))
-
--- after whole sequences what follows decides
-pub utf8-append : (a b : List ℕ) → utf8Of a ≡ true → utf8Of (a ++ b) ≡ utf8Of b
-unfolding utf8Of
-utf8-append a b e = from-append sequences [] a b e
 
 spells-pass : (table : List Sequence) (rs : List Range) (c s : List ℕ) → Spells rs c
     → utf8From table rs (c ++ s) ≡ utf8From table [] s
@@ -51,7 +35,3 @@ utf8-sequence b c s e u = sequence-pass sequences b c s e u
 pub utf8-low : (b : ℕ) (s : List ℕ) → b < 0x80 → utf8Of (b ∷ s) ≡ utf8Of s
 unfolding Spells tails
 utf8-low b s h = utf8-sequence b [] s (first-00 b (omega arith)) tt
-
-pub utf8-ascii : (s : List ℕ) → ((k : ℕ) → k < length s → getD s k 0 < 0x80) → utf8Of s ≡ true
-utf8-ascii [] h = utf8-nil
-utf8-ascii (b ∷ s) h = utf8-low b s (h 0 (omega arith)) ∙ utf8-ascii s (λ k l. h (suc k) (omega arith))

@@ -112,19 +112,6 @@ encodeIn-length (suc k) v =
       | yes c ↦ rw (le-ltb v 128 c) (omega (arith, encodeIn-length k (v / 128)))
     ]
 
-bytes-cons : (b : ℕ) (s : List ℕ) → b < 256 → Bytes s → Bytes (b ∷ s)
-bytes-cons b s h bs zero = h
-bytes-cons b s h bs (suc j) = bs j
-
-encodeIn-bytes : (k v : ℕ) → v < 2 * 128 ^ k → Bytes (encodeIn k v)
-unfolding encodeIn
-encodeIn-bytes zero v h = bytes-cons v [] (omega arith) (λ j. lit< tt)
-encodeIn-bytes (suc k) v h =
-    elim (decLe 128 v) [
-      | no c ↦ rw (lt-ltb v 128 (omega arith)) (bytes-cons v [] (omega arith) (λ j. lit< tt))
-      | yes c ↦ rw (le-ltb v 128 c) (bytes-cons (128 + v % 128) (encodeIn k (v / 128)) (omega arith) (encodeIn-bytes k (v / 128) (omega (arith, rw pow-suc at h))))
-    ]
-
 -- a k that is large enough makes no difference
 encodeIn-room : (k v : ℕ) → v < 2 * 128 ^ k → encodeIn (suc k) v ≡ encodeIn k v
 encodeIn-room zero v h = let l : v < 128 = omega arith in encodeIn-last 1 v l ∙ sym (encodeIn-last 0 v l)
@@ -148,10 +135,6 @@ module _ (s : List ℕ) (v n : ℕ) where
   unfolding decode
   decode-used e = let u = form-used (form 9 s v n e) in omega arith
 
-  pub decode-ten : decode s ≡ value v n → n ≤ 10
-  unfolding decode
-  decode-ten e = form-used (form 9 s v n e) .2
-
   pub decode-below : Bytes s → decode s ≡ value v n → v < 2 ^ 64
   unfolding decode
   decode-below b e = form-below b (form 9 s v n e)
@@ -173,10 +156,6 @@ module _ (v : ℕ) where
   pub encode-ten : length (encode v) ≤ 10
   unfolding encode
   encode-ten = encodeIn-length 9 v .1
-
-  pub encode-bytes : v < 2 ^ 64 → Bytes (encode v)
-  unfolding encode
-  encode-bytes h = encodeIn-bytes 9 v h
 
   -- the shortest form, by its low group
   pub encode-last : v < 128 → encode v ≡ v ∷ []
