@@ -13,7 +13,8 @@ use Rattle.c_answer.specs.Answer.{answered}
 
 -- "five u64: dictionary place, its stored size, index place, first time, last time"
 unfoldable pub frameBytes : Frame → List ℕ
-frameBytes r = le 8 (r .dictionary) ++ (le 8 (r .stored) ++ (le 8 (r .index) ++ (le 8 (r .first .0) ++ le 8 (r .last .0))))
+frameBytes r =
+    le 8 (r .dictionary) ++ (le 8 (r .stored) ++ (le 8 (r .index) ++ (le 8 (r .first .0) ++ le 8 (r .last .0))))
 
 -- open's own, with 12 for the rows, and last 12 for the frame
 unfoldable pub cOpenRules : (log : List ℕ) (rows frame : ℕ) → List Rule
@@ -24,7 +25,9 @@ cOpenOf log rows frame = answered (settle (firstBroken (cOpenRules log rows fram
 
 -- the lent rows and the lent frame afterwards
 unfoldable pub cOpenRows : (log rows : List ℕ) (frame : ℕ) → List ℕ
-cOpenRows log rows frame = ifSound (firstBroken (cOpenRules log (length rows) frame)) (splice rows 0 (tableBytes (rowsIn log))) rows
+cOpenRows log rows frame =
+    ifSound (firstBroken (cOpenRules log (length rows) frame)) (splice rows 0 (tableBytes (rowsIn log))) rows
 
 unfoldable pub cOpenFrame : (log : List ℕ) (rows : ℕ) (frame : List ℕ) → List ℕ
-cOpenFrame log rows frame = ifSound (firstBroken (cOpenRules log rows (length frame))) (splice frame 0 (frameBytes (frameOf log))) frame
+cOpenFrame log rows frame =
+    ifSound (firstBroken (cOpenRules log rows (length frame))) (splice frame 0 (frameBytes (frameOf log))) frame

@@ -25,9 +25,12 @@ fn put_frame(out: &mut [u8], log: Frame)
     wire::put_u64(out, 32, log.last.0);
 }
 
-// What opening answers where the frame has no room: what is wrong with the log and with the room of its rows comes first.
+// What opening answers where the frame has no room: what is wrong with the log and with the room of its rows comes
+// first.
 fn open_short(log: &[u8], rows: usize) -> Answer
-    ensures { λ r. ⌜ r ≡ answered (settle (firstBroken (callRules (now (log .entry)) rows ++ (flag 12 40 false ∷ []))) (frameOf (now (log .entry)) .blocks)) ⌝ }
+    ensures { λ r. ⌜ (
+        let log₀ = now (log .entry) in
+        r ≡ answered (settle (firstBroken (callRules log₀ rows ++ (flag 12 40 false ∷ []))) (frameOf log₀ .blocks))) ⌝ }
 {
     let r = reader::check(log);
     match r {
@@ -44,7 +47,13 @@ fn open_short(log: &[u8], rows: usize) -> Answer
 
 #[no_mangle]
 pub extern "C" fn hplog_open(log: &[u8], rows: &mut [u8], frame: &mut [u8]) -> Answer
-    ensures { λ r. ⌜ (r ≡ cOpenOf (now (log .entry)) (length (now (rows .entry))) (length (now (frame .entry)))) × (now (rows .exit) ≡ cOpenRows (now (log .entry)) (now (rows .entry)) (length (now (frame .entry)))) × (now (frame .exit) ≡ cOpenFrame (now (log .entry)) (length (now (rows .entry))) (now (frame .entry))) ⌝ }
+    ensures { λ r. ⌜ (
+        let log₀ = now (log .entry) in
+        let rows₀ = now (rows .entry) in
+        let frame₀ = now (frame .entry) in
+        (r ≡ cOpenOf log₀ (length rows₀) (length frame₀))
+        × (now (rows .exit) ≡ cOpenRows log₀ rows₀ (length frame₀))
+        × (now (frame .exit) ≡ cOpenFrame log₀ (length rows₀) frame₀)) ⌝ }
 {
     if frame.len() < FRAME {
         return open_short(log, rows.len());

@@ -39,9 +39,12 @@ cQueryRules rows t1 t2 numbers =
     ++ (atLeast 12 (4 * length (cChosen rows t1 t2)) numbers (4 * length (cChosen rows t1 t2)) ∷ []))
 
 unfoldable pub cQueryOf : (rows : List ℕ) (t1 t2 numbers : ℕ) → Answer
-cQueryOf rows t1 t2 numbers = answered (settle (firstBroken (cQueryRules rows t1 t2 numbers)) (length (cChosen rows t1 t2)))
+cQueryOf rows t1 t2 numbers =
+    answered (settle (firstBroken (cQueryRules rows t1 t2 numbers)) (length (cChosen rows t1 t2)))
 
 -- the lent list of numbers afterwards
 unfoldable pub cQueryOut : (rows : List ℕ) (t1 t2 : ℕ) (numbers : List ℕ) → List ℕ
 cQueryOut rows t1 t2 numbers =
-    ifSound (firstBroken (cQueryRules rows t1 t2 (length numbers))) (splice numbers 0 (numbersBytes (cChosen rows t1 t2))) numbers
+    ifSound (firstBroken (cQueryRules rows t1 t2 (length numbers)))
+    (splice numbers 0 (numbersBytes (cChosen rows t1 t2)))
+    numbers

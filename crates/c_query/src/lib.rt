@@ -1,4 +1,5 @@
-// The choice of blocks and the label for programs in C, on numbers and lent bytes. A length comes after each pointer (include/hplog.h).
+// The choice of blocks and the label for programs in C, on numbers and lent bytes. A length comes after each pointer
+// (include/hplog.h).
 ghost use mathlib.Core.Path.{_≡_};
 ghost use mathlib.Core.List.{[], _∷_};
 ghost use Prim.Native.Nat.{_+_, _*_, _≤_};
@@ -17,7 +18,10 @@ use rows::Row;
 // The number i where its row is listed, as four bytes at an offset; the offset behind it.
 fn put_number(out: &mut [u8], at: usize, i: u32, row: Row, from: Epoch, to: Epoch) -> usize
     requires { ⌜ at + 4 * length (chosen from to i (row ∷ [])) ≤ length (now out) ⌝ }
-    ensures { λ r. ⌜ (r ≡ at + 4 * length (chosen from to i (row ∷ []))) × (now (out .exit) ≡ splice (now (out .entry)) at (numbersBytes (chosen from to i (row ∷ [])))) ⌝ }
+    ensures { λ r. ⌜ (
+        let out₀ = now (out .entry) in
+        (r ≡ at + 4 * length (chosen from to i (row ∷ [])))
+        × (now (out .exit) ≡ splice out₀ at (numbersBytes (chosen from to i (row ∷ []))))) ⌝ }
 {
     if query::lists(row, from, to) {
         let end = at + 4;
@@ -27,10 +31,17 @@ fn put_number(out: &mut [u8], at: usize, i: u32, row: Row, from: Epoch, to: Epoc
     at
 }
 
-// The numbers of the listed rows. Each row and each number is a part of its own, of a length that is known, so that reading and writing it take no test.
+// The numbers of the listed rows. Each row and each number is a part of its own, of a length that is known, so that
+// reading and writing it take no test.
 fn put_numbers(out: &mut [u8], rows: &[u8], from: Epoch, to: Epoch)
-    requires { ⌜ (length (cRows (now rows)) ≤ mostRows) × (4 * length (chosen from to 0 (cRows (now rows))) ≤ length (now out)) ⌝ }
-    ensures { λ _. ⌜ now (out .exit) ≡ splice (now (out .entry)) 0 (numbersBytes (chosen from to 0 (cRows (now (rows .entry))))) ⌝ }
+    requires { ⌜ (
+        let rows₀ = now rows in
+        (length (cRows rows₀) ≤ mostRows)
+        × (4 * length (chosen from to 0 (cRows rows₀)) ≤ length (now out))) ⌝ }
+    ensures { λ _. ⌜ (
+        let out₀ = now (out .entry) in
+        let rows₀ = now (rows .entry) in
+        now (out .exit) ≡ splice out₀ 0 (numbersBytes (chosen from to 0 (cRows rows₀)))) ⌝ }
 {
     let count = rows::room(rows);
     let mut at = 0;
@@ -46,7 +57,11 @@ fn put_numbers(out: &mut [u8], rows: &[u8], from: Epoch, to: Epoch)
 
 #[no_mangle]
 pub extern "C" fn hplog_query(rows: &[u8], t1: u64, t2: u64, numbers: &mut [u8]) -> Answer
-    ensures { λ r. ⌜ (r ≡ cQueryOf (now (rows .entry)) t1 t2 (length (now (numbers .entry)))) × (now (numbers .exit) ≡ cQueryOut (now (rows .entry)) t1 t2 (now (numbers .entry))) ⌝ }
+    ensures { λ r. ⌜ (
+        let rows₀ = now (rows .entry) in
+        let numbers₀ = now (numbers .entry) in
+        (r ≡ cQueryOf rows₀ t1 t2 (length numbers₀))
+        × (now (numbers .exit) ≡ cQueryOut rows₀ t1 t2 numbers₀)) ⌝ }
 {
     let n = rows.len();
     if t2 < t1 {

@@ -28,12 +28,15 @@ unfoldable pub cRecoverRules : (log : List ℕ) (rows report : ℕ) → List Rul
 cRecoverRules log rows report = callRules log rows ++ (atLeast 12 32 report 32 ∷ [])
 
 unfoldable pub cRecoverOf : (log : List ℕ) (rows report : ℕ) → Answer
-cRecoverOf log rows report = answered (settle (firstBroken (cRecoverRules log rows report)) (length (reportOf log .rows)))
+cRecoverOf log rows report =
+    answered (settle (firstBroken (cRecoverRules log rows report)) (length (reportOf log .rows)))
 
 -- the lent rows and the lent report afterwards
 unfoldable pub cRecoverRows : (log rows : List ℕ) (report : ℕ) → List ℕ
 cRecoverRows log rows report =
-    ifSound (firstBroken (cRecoverRules log (length rows) report)) (splice rows 0 (tableBytes (reportOf log .rows))) rows
+    ifSound (firstBroken (cRecoverRules log (length rows) report))
+    (splice rows 0 (tableBytes (reportOf log .rows)))
+    rows
 
 unfoldable pub cRecoverReport : (log : List ℕ) (rows : ℕ) (report : List ℕ) → List ℕ
 cRecoverReport log rows report =

@@ -1,4 +1,5 @@
-// Recovery and repair of a file for programs in C, on numbers and lent bytes. A length comes after each pointer (include/hplog.h).
+// Recovery and repair of a file for programs in C, on numbers and lent bytes. A length comes after each pointer
+// (include/hplog.h).
 ghost use mathlib.Core.Path.{_≡_};
 ghost use mathlib.Core.Bool.{false};
 ghost use mathlib.Core.List.{[], _∷_, _++_};
@@ -35,7 +36,9 @@ fn stop_of(stop: Checked) -> Refusal
 }
 
 fn put_report(out: &mut [u8], report: Report)
-    ensures { λ _. ⌜ now (out .exit) ≡ splice (now (out .entry)) 0 (reportBytes (report .end) (verdictOf (report .stop)) (report .whole)) ⌝ }
+    ensures { λ _. ⌜ (
+        let out₀ = now (out .entry) in
+        now (out .exit) ≡ splice out₀ 0 (reportBytes (report .end) (verdictOf (report .stop)) (report .whole))) ⌝ }
 {
     let stop = report.stop;
     let w = stop_of(stop);
@@ -45,9 +48,14 @@ fn put_report(out: &mut [u8], report: Report)
     wire::put_u64(out, 24, c_answer::flag(report.whole));
 }
 
-// What recovery answers where the report has no room: what is wrong with the header and with the room of the rows comes first.
+// What recovery answers where the report has no room: what is wrong with the header and with the room of the rows comes
+// first.
 fn recover_short(log: &[u8], rows: usize) -> Answer
-    ensures { λ r. ⌜ r ≡ answered (settle (firstBroken (callRules (now (log .entry)) rows ++ (flag 12 32 false ∷ []))) (length (reportOf (now (log .entry)) .rows))) ⌝ }
+    ensures { λ r. ⌜ (
+        let log₀ = now (log .entry) in
+        r
+        ≡ answered
+        (settle (firstBroken (callRules log₀ rows ++ (flag 12 32 false ∷ []))) (length (reportOf log₀ .rows)))) ⌝ }
 {
     let r = recovery::survey(log);
     match r {
@@ -64,7 +72,13 @@ fn recover_short(log: &[u8], rows: usize) -> Answer
 
 #[no_mangle]
 pub extern "C" fn hplog_recover(log: &[u8], rows: &mut [u8], report: &mut [u8]) -> Answer
-    ensures { λ r. ⌜ (r ≡ cRecoverOf (now (log .entry)) (length (now (rows .entry))) (length (now (report .entry)))) × (now (rows .exit) ≡ cRecoverRows (now (log .entry)) (now (rows .entry)) (length (now (report .entry)))) × (now (report .exit) ≡ cRecoverReport (now (log .entry)) (length (now (rows .entry))) (now (report .entry))) ⌝ }
+    ensures { λ r. ⌜ (
+        let log₀ = now (log .entry) in
+        let rows₀ = now (rows .entry) in
+        let report₀ = now (report .entry) in
+        (r ≡ cRecoverOf log₀ (length rows₀) (length report₀))
+        × (now (rows .exit) ≡ cRecoverRows log₀ rows₀ (length report₀))
+        × (now (report .exit) ≡ cRecoverReport log₀ (length rows₀) report₀)) ⌝ }
 {
     if report.len() < REPORT {
         return recover_short(log, rows.len());
@@ -81,7 +95,12 @@ pub extern "C" fn hplog_recover(log: &[u8], rows: &mut [u8], report: &mut [u8]) 
 
 #[no_mangle]
 pub extern "C" fn hplog_repair(log: &[u8], dictionary: &[u8], out: &mut [u8]) -> Answer
-    ensures { λ r. ⌜ (r ≡ cRepairOf (now (log .entry)) (now (dictionary .entry)) (length (now (out .entry)))) × (now (out .exit) ≡ repairOut (now (log .entry)) (now (dictionary .entry)) (now (out .entry))) ⌝ }
+    ensures { λ r. ⌜ (
+        let log₀ = now (log .entry) in
+        let dictionary₀ = now (dictionary .entry) in
+        let out₀ = now (out .entry) in
+        (r ≡ cRepairOf log₀ dictionary₀ (length out₀))
+        × (now (out .exit) ≡ repairOut log₀ dictionary₀ out₀)) ⌝ }
 {
     let r = repair::repair(log, dictionary, out);
     match r {

@@ -1,6 +1,6 @@
 -- Demand 1, its last sentence as one claim (document 01, "Numbers handed back"): "Every refusal returns its number and
--- a place and changes no lent byte", and no state. That each number is one of the table's is the crate `claims_numbers`.
--- Assumes nothing.
+-- a place and changes no lent byte", and no state. That each number is one of the table's is the crate
+-- `claims_numbers`. Assumes nothing.
 use mathlib.Core.Path.{_≡_}
 use mathlib.Core.List.{List, []}
 use Prim.Native.Nat.{ℕ}

@@ -4,7 +4,8 @@ ghost use mathlib.Core.List.{[], _∷_};
 ghost use Prim.Native.Nat.{_+_, _≤_, _<_};
 ghost use lib.ListN.{length};
 ghost use Rattle.wire.specs.Wire.{le, splice};
-ghost use Rattle.listing_digits.specs.Digits.{decimalOf, magnitudeOf, signedOf, hexDigit, hexOf, shownInText, shownInName, byteOf, byteLen, Put};
+ghost use Rattle.listing_digits.specs.Digits.{decimalOf, magnitudeOf, signedOf, hexDigit, hexOf, shownInText};
+ghost use Rattle.listing_digits.specs.Digits.{shownInName, byteOf, byteLen, Put};
 ghost use Rattle.listing_digits.specs.Inner.{pairOf, fourOf};
 
 // How many digits a number below ten thousand takes.
@@ -46,7 +47,8 @@ fn put_pair(out: &mut [u8], at: usize, v: u32)
     out[at + 1] = 0x30 + (v % 10) as u8;
 }
 
-// The four digits of a number below ten thousand, the first in the lowest byte: the hundreds beside the rest, and the tens of both at once.
+// The four digits of a number below ten thousand, the first in the lowest byte: the hundreds beside the rest, and the
+// tens of both at once.
 fn four_digits(r: u32) -> u32
     requires { ⌜ r < 10000 ⌝ }
     ensures { λ w. ⌜ le 4 w ≡ fourOf r ⌝ }

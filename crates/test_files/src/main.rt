@@ -1,8 +1,9 @@
 // Runs cases of whole files against the compiled library.
 //
-// A line of standard input is a command and its words, with one space between them: numbers in decimal, bytes in hexadecimal ('-' for none).
-// Empty lines and those that start with '#' are passed over. Kept from line to line are a file of up to 65,536 bytes, and a table of rows of
-// 131,072. The commands are those of the crate `test_views` and these:
+// A line of standard input is a command and its words, with one space between them: numbers in decimal, bytes in
+// hexadecimal ('-' for none). Empty lines and those that start with '#' are passed over. Kept from line to line are a
+// file of up to 65,536 bytes, and a table of rows of 131,072. The commands are those of the crate `test_views` and
+// these:
 //   file HEX, append HEX         nothing: the bytes are the file, or come behind it
 //   flips A B                    `glance` with the byte at each offset from A up to B one more, behind the offset
 use libc::STDIN_FILENO;

@@ -18,7 +18,8 @@ pub fn reach(out: &[u8], at: usize, n: usize) -> usize
     out.len()
 }
 
-// Puts s into a buffer from a place on, as much as fits, and says where it ends: here and below a text that doesn't fit is cut off.
+// Puts s into a buffer from a place on, as much as fits, and says where it ends: here and below a text that doesn't fit
+// is cut off.
 pub fn with(out: &mut [u8], at: usize, s: &[u8]) -> usize
     ensures { λ r. ⌜ Counts r (now (out .exit)) ⌝ }
 {

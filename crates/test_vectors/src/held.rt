@@ -11,7 +11,11 @@ use rows::Row;
 
 // Asks for the first rows of a table, eight at most.
 pub fn ask(table: &[u8], from: Epoch, to: Epoch, numbers: &mut [u32]) -> Queried
-    ensures { λ r. ⌜ (queriedOf r ≡ queryOf (rowsOf (min (length (now (table .entry)) / stride) 8) (now (table .entry))) from to (length (now (numbers .entry)))) × (now (numbers .exit) ≡ queryOut (rowsOf (min (length (now (table .entry)) / stride) 8) (now (table .entry))) from to (now (numbers .entry))) ⌝ }
+    ensures { λ r. ⌜ (
+        let table₀ = now (table .entry) in
+        let numbers₀ = now (numbers .entry) in
+        (queriedOf r ≡ queryOf (rowsOf (min (length table₀ / stride) 8) table₀) from to (length numbers₀))
+        × (now (numbers .exit) ≡ queryOut (rowsOf (min (length table₀ / stride) 8) table₀) from to numbers₀)) ⌝ }
 {
     let empty = Row::empty();
     let mut held = [empty; 8];

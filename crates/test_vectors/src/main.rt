@@ -1,22 +1,27 @@
 // Runs published vectors and further cases against the compiled library.
 //
-// A line of standard input is a case: a group's name, the input in hexadecimal ('-' for none) and the answer that it must have, with one
-// space between them. Empty lines and those that start with '#' are passed over. Groups and their answers:
+// A line of standard input is a case: a group's name, the input in hexadecimal ('-' for none) and the answer that it
+// must have, with one space between them. Empty lines and those that start with '#' are passed over. Groups and their
+// answers:
 //   crc32   the checksum, eight hexadecimal digits
 //   utf8    valid or invalid
 //   varint  cut, malformed, or the value, the position after it and the value's shortest form in hexadecimal
 //   label   of a name: written, shortened or the refusal, and then a panel of twenty bytes AA afterwards
 //   panel   the same, with a panel of fifteen bytes
 //   names   of a plain dictionary: how many names it has, or the refusal
-//   many    of a number of names (u32) and a kind (u8), from which a dictionary is made: the same; kind 1 makes the last name equal to the first
+//   many    of a number of names (u32) and a kind (u8), from which a dictionary is made: the same; kind 1 makes the
+//           last name equal to the first
 //   name    of a number (u64) and a plain dictionary: the name's place, length and bytes, or the refusal
 //   number  of a length (u8), a name and a plain dictionary: the name's number, missing, or the refusal
-//   entries of a block's start (u64), a number of names (u32) and a payload: how many entries it has and the last one's time, or the refusal
-//   recover of a file: how many blocks, the end of the last, the number and place that stopped the scan, whether the dictionary is whole, and a
+//   entries of a block's start (u64), a number of names (u32) and a payload: how many entries it has and the last one's
+//   time, or the refusal
+//   recover of a file: how many blocks, the end of the last, the number and place that stopped the scan, whether the
+//   dictionary is whole, and a
 //           lent table of 68 bytes AA afterwards; or the refusal
 //   query   of two times (u64 each) and a table of rows: the numbers of the blocks chosen, or the refusal
 //   slices  the same, over the rows as a slice of structs
-// It prints how many cases of each group agree, and before that each case that doesn't, with the answer that the library gave.
+// It prints how many cases of each group agree, and before that each case that doesn't, with the answer that the
+// library gave.
 mod answers;
 mod groups;
 mod held;

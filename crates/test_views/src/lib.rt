@@ -1,6 +1,9 @@
-// Commands of the programs that look at a file, and what they print. Rows are written to a lent table; ROOM is how much of it is lent in that call.
-//   open, open-in ROOM           log, D, stored size, index offset, blocks, first and last time; then a line for each row: start, end, offset, stored size
-//   recover, recover-in ROOM     found, blocks, the end of the last, the number and place that stopped it, whole or none; then the rows
+// Commands of the programs that look at a file, and what they print. Rows are written to a lent table; ROOM is how much
+// of it is lent in that call.
+//   open, open-in ROOM           log, D, stored size, index offset, blocks, first and last time; then a line for each
+//                                row: start, end, offset, stored size
+//   recover, recover-in ROOM     found, blocks, the end of the last, the number and place that stopped it, whole or
+//                                none; then the rows
 //   table                        the CRC-32 of the table
 //   scan LIMIT                   scanned, blocks up to LIMIT, the end of the last, the number and place that stopped it
 //   glance                       open's answer and recover's, on a line, without rows
@@ -92,7 +95,8 @@ pub fn put(file: &mut [u8], at: usize, hex: &[u8]) -> usize {
     test_text::with(file, at, &bytes[..n])
 }
 
-// Zeros, for a file of 4,096 small blocks. Here and below the `ensures` gives only the length, so that the elements are looked at once for all callers.
+// Zeros, for a file of 4,096 small blocks. Here and below the `ensures` gives only the length, so that the elements are
+// looked at once for all callers.
 pub fn storage() -> [u8; 270000]
     ensures { λ r. ⌜ 270000 ≡ length r ⌝ }
 {

@@ -32,7 +32,8 @@ pub fn with_len(s: Draft, len: usize) -> Draft {
     Draft { writer, len }
 }
 
-// Puts stores in a file, the header that they start with, if any, at its start and the rest at its end; says where it ends then.
+// Puts stores in a file, the header that they start with, if any, at its start and the rest at its end; says where it
+// ends then.
 fn put_stores(file: &mut [u8], end: usize, header: usize, stores: &[u8]) -> usize {
     let first = wire::part_at(stores, 0, header);
     let rest = wire::part_at(stores, header, stores.len());

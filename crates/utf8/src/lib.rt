@@ -8,7 +8,8 @@ ghost use lib.ListN.{length, getD, drop};
 ghost use Rattle.utf8.specs.Utf8.{_to_, tails, utf8Of};
 ghost use Rattle.utf8.specs.Steps.{Low, Passed, Stepped, Followed, Fits, Fitting, Settled, Windows};
 
-// The w bytes from i, or-ed: not below 80 hex where one of them isn't. With no early exit this compiles to vector loads.
+// The w bytes from i, or-ed: not below 80 hex where one of them isn't. With no early exit this compiles to vector
+// loads.
 fn or_bytes(s: &[u8], i: usize, w: usize) -> u8
     requires { ⌜ i + w ≤ length (now s) ⌝ }
     ensures { λ r. ⌜ (r < 0x80 → Low w (now (s .entry)) i) ⌝ }

@@ -1,4 +1,5 @@
--- Varints: seven bits a byte, low group first, high bit set on all but the last; at most ten bytes, the tenth 0 or 1 (document 01, "Names and entries"). Assumes nothing.
+-- Varints: seven bits a byte, low group first, high bit set on all but the last; at most ten bytes, the tenth 0 or 1
+-- (document 01, "Names and entries"). Assumes nothing.
 use mathlib.Core.Path.{_≡_}
 use mathlib.Core.Bool.{cond}
 use mathlib.Core.List.{List, [], _∷_}
@@ -7,7 +8,8 @@ use lib.Dec.{leb, ltb}
 use lib.Count.{leadingZeros}
 use lib.ListN.{length}
 
--- what a list of bytes begins with: a value and how many bytes it took; fewer bytes than the varint has; more than ten bytes or a tenth above 1
+-- what a list of bytes begins with: a value and how many bytes it took; fewer bytes than the varint has; more than ten
+-- bytes or a tenth above 1
 pub data Decoding : Type 0 where
   value : (v n : ℕ) → Decoding
   cut : Decoding

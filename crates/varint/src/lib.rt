@@ -6,7 +6,8 @@ ghost use Rattle.wire.specs.Wire.{splice};
 ghost use Rattle.varint.specs.Varint.{encode};
 ghost use Rattle.varint.specs.Answer.{decodedAt};
 
-// What stands at a position: a value and the position behind it; bytes that end too early; more than ten bytes or 64 bits.
+// What stands at a position: a value and the position behind it; bytes that end too early; more than ten bytes or 64
+// bits.
 pub enum Decoded {
     Value(u64, usize),
     Cut,

@@ -5,7 +5,8 @@ use mathlib.Core.List.{List, [], _∷_, _++_}
 use Prim.Native.Nat.{ℕ, _≤_, _<_}
 use borrow.Author.Tests.{le-leb, lt-leb, eq-eqb, ne-eqb}
 use native.Mathlib.Omega.{arith}
-use Rattle.verdict.specs.Rules.{Rule, flag, equal, atLeast, atMost, holds, numberOf, placeOf, Verdict, sound, broken, firstBroken, Held, given, refused, settle, verdictIn, ruled}
+use Rattle.verdict.specs.Rules.{Rule, flag, equal, atLeast, atMost, holds, numberOf, placeOf, Verdict, sound, broken, firstBroken, Held, given, refused}
+use Rattle.verdict.specs.Rules.{settle, verdictIn, ruled}
 
 -- no rule is broken where there is none
 pub first-none : firstBroken [] ≡ sound

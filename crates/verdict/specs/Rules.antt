@@ -5,8 +5,8 @@ use mathlib.Core.Bool.{Bool, true, false, cond}
 use mathlib.Core.List.{List, [], _∷_}
 use lib.Dec.{leb, eqb}
 
--- a rule has the number and the place of its refusal, and what it compares: a test, or the number read and the one it must equal,
--- or the number read and the bound that it must not fall below or exceed
+-- a rule has the number and the place of its refusal, and what it compares: a test, or the number read and the one it
+-- must equal, or the number read and the bound that it must not fall below or exceed
 pub data Rule : Type 0 where
   flag : (number place : ℕ) (holds : Bool) → Rule
   equal : (number place read wanted : ℕ) → Rule

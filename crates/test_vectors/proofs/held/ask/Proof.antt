@@ -1,6 +1,6 @@
--- `test_vectors::held::ask` meets its contract: a walk of its MIR, by hand. The local array of rows is taken apart into its elements, lent to `fill` as a `&mut` slice, and has them back;
--- its first rows, as many as `fill` put, are then lent to `query` as a `&` slice, for which `numbers` is lent again.
--- All that the proof knows of each callee is that it meets its contract. Assumes nothing.
+-- `test_vectors::held::ask` meets its contract: a walk of its MIR, by hand. The local array of rows is taken apart into its elements, lent to `fill` as a
+-- `&mut` slice, and has them back; its first rows, as many as `fill` put, are then lent to `query` as a `&` slice, for which `numbers` is lent again. All that
+-- the proof knows of each callee is that it meets its contract. Assumes nothing.
 use mathlib.Core.Path.{_≡_, refl, ap, _∙_, subst}
 use Prim.Native.Nat.{ℕ, _/_, _<_, _≤_, _^_, min}
 use native.Mathlib.Omega.{arith}
@@ -20,9 +20,11 @@ use prog.Wp.{Heap, Env, Calls, Loops, Wp, atReturn, WpFn, Tables}
 use ghost.Atoms.{Atoms, sem}
 use contract.Monad.{Fun, fact}
 use contract.Running.{givenOf, tables, tablesOf}
-use types.Kit.{Given, Item, ‵, raw, _⊛_, ⋆, some, later, atRet, _$_, _∵_, !, qed, by, move, keep, drop, use1, use2, use3, split, join, pick, rewrite, fsplit, fjoin, fpick, fpack, feqL, feqI, suffices, frame, await, done}
+use types.Kit.{Given, Item, ‵, raw, _⊛_, ⋆, some, later, atRet, _$_, _∵_, !, qed, by, move, keep, drop, use1, use2, use3, split, join, pick, rewrite, fsplit}
+use types.Kit.{fjoin, fpick, fpack, feqL, feqI, suffices, frame, await, done}
 use types.Part.{agg, rep, whole, sub, look-in}
-use types.Run.{look, init, forget, stop, hop, fld, from, load, lit, addr, and-then, no-more, assigns, land, returns, enter, alloc1, alloc0, params1, pass1, pass0, free1, free0, exec}
+use types.Run.{look, init, forget, stop, hop, fld, from, load, lit, addr, and-then, no-more, assigns, land, returns, enter, alloc1, alloc0, params1, pass1}
+use types.Run.{pass0, free1, free0, exec}
 use types.SemTy.{cells, Arr}
 use types.Share.{arr-parts}
 use types.Tokens.{lft-new, lft-end, lent-back}
@@ -48,7 +50,8 @@ use denote.Triple.Clauses.{ensured, Lasts, lasts}
 use denote.Triple.Entry.{Vals, onEntry}
 use denote.Triple.Spec.{Meets, tripleOf}
 use denote.Triple.Table.{entered, cited}
-use denote.Triple.Walked.{says, Stays, stay-none, stay-none-slice, stay-slice, walkOf, Walks, ends-at, walked, goes-none, goes-none-slice, goes-slice, walk-meets}
+use denote.Triple.Walked.{says, Stays, stay-none, stay-none-slice, stay-slice, walkOf, Walks, ends-at, walked, goes-none, goes-none-slice, goes-slice}
+use denote.Triple.Walked.{walk-meets}
 use denote.Exit.{yes}
 use borrow.Table.Elements.{at as past, cut-app, join-app}
 use borrow.Table.OneValue.{retype}
@@ -286,11 +289,13 @@ module _ {M : Type 1} (𝓤 : URA M) (H : Heap 𝓤) (A : Atoms 𝓤) (W : Given
             lft-new ! tt (λ ν. move ! (1 ∷ []) $
             use1 W (later (some (λ (δ : GName). ‵ (ShrSlice (named 0) (ν ∷ []) R .own (h δ ks) (sh (length ks) ∷ [])) ⊛ ‵ (flent (ν ∷ []) (arr-parts (shares R) (length ks) .part fullShare ks l6 0))))) (lends-shr-slice 𝓤 H A W R (named 0) (ν ∷ []) fullShare ks l6 0 (room-of (length ks) (omega (arith, count)))) $ await ! tt $ pick ! (λ δ. split ! $
             rewrite ! 0 (λ (w : ℕ). ‵ (ShrSlice (named 0) (ν ∷ []) R .own (h δ ks) (sh w ∷ []))) count refl $
-            -- [the slice; the lender's part; the token of ν; the others; _5; _7; _8; _9; _10; _11; _12; _13; numbers; its token; the table; its token; _1; …]: numbers is lent again
+            -- [the slice; the lender's part; the token of ν; the others; _5; _7; _8; _9; _10; _11; _12; _13; numbers; its token; the table; its token; _1; …]:
+            -- numbers is lent again
             lft-new ! tt (λ ν₂. move ! (13 ∷ 14 ∷ []) $
             use2 W (later (some (λ (ε : GName). ‵ (MutSlice (named 1) (ν₂ ∷ []) u32 .own (y ε l₀) (so ∷ [])) ⊛ ‵ (LentAgain u32 κ₁ (ν₂ ∷ []) q₁ γ bo oo ε l₀)))) (lends-again u32 κ₁ (ν₂ ∷ []) q₁ γ bo oo 𝓤 H A W (named 1) (named 1) l₀) $ await ! tt $ pick ! (λ ε. split ! $
             move ! (5 ∷ 2 ∷ 3 ∷ 0 ∷ []) $ join ! $ use3 W (raw (Query 𝓤 H A mem′ run .pre (to-query ν ν₂ δ ε))) (goes-query ν ν₂ δ ε) $
-            -- [what `query` asks; what is kept of numbers; the lender's part; the others; _5; _7; _8; _9; _10; _11; _12; _13; the table; its token; _1; _2; _3; _4; room for _0; …]
+            -- [what `query` asks; what is kept of numbers; the lender's part; the others; _5; _7; _8; _9; _10; _11; _12; _13; the table; its token; _1; _2; _3;
+            -- _4; room for _0; …]
             calls-at ! (fmOf 𝓤 H (W .laws) 𝓣) (Query 𝓤 H A mem′ run) k-query (to-query ν ν₂ δ ε)
             (and-then ! (load ! (from ! (stop !)) (look ! 9 refl)) (and-then ! (load ! (from ! (stop !)) (look ! 15 refl)) (and-then ! (load ! (from ! (stop !)) (look ! 16 refl)) (and-then ! (load ! (from ! (stop !)) (look ! 11 refl)) (no-more !))))) (λ u.
             use1 W (later (some (λ (c : Queried). ((‵ (flft (ν ∷ []) fullShare) ⊛ (‵ (flft (ν₂ ∷ []) fullShare) ⊛ ‵ ftrue)) ⊛ ‵ (N.the-row .own c (u ∷ []))) ⊛ raw (ensured 𝓤 H A query.ended (query.clauses 𝓤 H A mem′ run) (ν ∷ [], (ν₂ ∷ [], tt)) (given-query δ ε) tt c)))) (id⊢ 𝓤 _) $ await ! tt $ pick ! (λ c.
