@@ -1,5 +1,6 @@
 # make                     the library target/lib/libhplog.a and the command target/bin/hplog
 # make run                 the samples: listed, checked and recovered
+# make check               a short test: what changed is proved again, programs, library and command are run
 # make test                the whole gate
 # make bench               each call beside a peer, and its stack: docs/performance-table.md, and a plot in
 #                          docs/performance.svg
@@ -40,6 +41,14 @@ target/command/%.o: command/%.c include/hplog.h $(wildcard command/*.h)
 run: all
 	samples/run $(COMMAND)
 
+check: all
+	tools/check-claims
+	tools/check-widths
+	rt fmt --check
+	rt check
+	HPLOG_LIB=$(dir $(LIBRARY)) tests/run
+	command/tests/run
+
 test:
 	bash .ci/run
 
@@ -56,4 +65,4 @@ install: all
 	$(INSTALL) -D -m 644 man/hplog.1 $(DESTDIR)$(PREFIX)/share/man/man1/hplog.1
 	$(INSTALL) -D -m 644 man/hplog.3 $(DESTDIR)$(PREFIX)/share/man/man3/hplog.3
 
-.PHONY: all run test bench install
+.PHONY: all run check test bench install
