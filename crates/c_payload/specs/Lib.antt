@@ -1,3 +1,2 @@
--- The definitions of the calls on plain bytes at the C edge. Assumes nothing.
-pub mod Names
+-- The definitions of the reading steps at the C edge. Assumes nothing.
 pub mod Steps

@@ -65,5 +65,7 @@ readField id kind bits from length next =
     record { number = 0; place = 0; id = id; kind = kind; bits = bits; from = from; length = length; next = next }
 
 abbrev pub fieldAnswer : FieldStep → FieldAnswer
-fieldAnswer (field.Field f c) = readField (f .id) (kindCode (f .value)) (bitsOf (f .value)) (fromOf (f .value)) (lengthOf (f .value)) c
-fieldAnswer (field.Refused r) = record { number = r .number; place = r .place; id = 0; kind = 0; bits = 0; from = 0; length = 0; next = front }
+fieldAnswer (field.Field f c) =
+    readField (f .id) (kindCode (f .value)) (bitsOf (f .value)) (fromOf (f .value)) (lengthOf (f .value)) c
+fieldAnswer (field.Refused r) =
+    record { number = r .number; place = r .place; id = 0; kind = 0; bits = 0; from = 0; length = 0; next = front }

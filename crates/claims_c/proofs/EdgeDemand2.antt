@@ -28,7 +28,7 @@ use Rattle.writer.specs.State.{newWriter}
 use Rattle.writer.specs.declared.state.Writer.{Writer}
 use Rattle.writer_blocks.specs.Block.{Adding, blockFor}
 use Rattle.c_open.specs.Open.{cOpenRules, cOpenOf, cOpenRows, cOpenFrame}
-use Rattle.c_payload.specs.Names.{spanAnswer, cNamesOf, cNameOf}
+use Rattle.c_names.specs.Names.{spanAnswer, cNamesOf, cNameOf}
 use Rattle.c_payload.specs.Steps.{bitsOf, fromOf, lengthOf}
 use Rattle.disk.specs.Disk.{finished}
 use Rattle.claims.specs.Calls.{Call, close, verdictFor, addings, newWriting, behind, Closes, fileOf}

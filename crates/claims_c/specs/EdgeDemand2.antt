@@ -18,7 +18,7 @@ use Rattle.writer.specs.State.{newWriter}
 use Rattle.writer_blocks.specs.Block.{Adding, readBy, blockFor}
 use Rattle.c_answer.specs.Answer.{answered}
 use Rattle.c_open.specs.Open.{frameBytes, cOpenOf, cOpenRows, cOpenFrame}
-use Rattle.c_payload.specs.Names.{cNamesOf, cNameOf}
+use Rattle.c_names.specs.Names.{cNamesOf, cNameOf}
 use Rattle.c_payload.specs.Steps.{deltaAnswer, countAnswer, fieldAnswer}
 use Rattle.disk.specs.Disk.{finished}
 use Rattle.claims.specs.Calls.{Call, close, addings, newWriting, behind, Fair}

@@ -66,7 +66,7 @@ use Rattle.c_listing.specs.Answers.{cListOf, cRangeOf, Went}
 use Rattle.c_writer.specs.declared.State.{State}
 use Rattle.c_writer.specs.State.{writerIn}
 use Rattle.c_writer.specs.Answers as edge
-use Rattle.c_payload.specs.Names.{spanAnswer, numberAnswer, cNamesOf, cNameOf, cNameAtOf, cNumberOf}
+use Rattle.c_names.specs.Names.{spanAnswer, numberAnswer, cNamesOf, cNameOf, cNameAtOf, cNumberOf}
 use Rattle.c_payload.specs.Steps.{deltaAnswer, countAnswer, fieldAnswer}
 use Rattle.claims_numbers.specs.Numbers.{Listed, Returns, deltaVerdict, countVerdict, fieldVerdict, TableNumbers}
 use Rattle.claims_numbers.proofs.Payloads.{allListed, cond-listed, first-listed, both, ruled-numbered, settled}

@@ -66,7 +66,7 @@ use Rattle.c_listing.specs.Answers.{cListOf, cRangeOf, Went}
 use Rattle.c_writer.specs.declared.State.{State}
 use Rattle.c_writer.specs.State.{writerIn}
 use Rattle.c_writer.specs.Answers.{storing, naming, entering}
-use Rattle.c_payload.specs.Names.{cNamesOf, cNameOf, cNameAtOf, cNumberOf}
+use Rattle.c_names.specs.Names.{cNamesOf, cNameOf, cNameAtOf, cNumberOf}
 use Rattle.c_payload.specs.Steps.{deltaAnswer, countAnswer, fieldAnswer}
 
 -- the numbers of the table: from 1, "file below 64 bytes", to 17, "writer call out of turn"

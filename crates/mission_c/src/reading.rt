@@ -6,7 +6,7 @@ ghost use Rattle.repair.specs.Repair.{repairOut};
 ghost use Rattle.c_open.specs.Open.{cOpenOf, cOpenRows, cOpenFrame};
 ghost use Rattle.c_recovery.specs.Recover.{cRecoverOf, cRecoverRows, cRecoverReport};
 ghost use Rattle.c_recovery.specs.Repair.{cRepairOf};
-ghost use Rattle.c_payload.specs.Names.{cNamesOf, cNameOf};
+ghost use Rattle.c_names.specs.Names.{cNamesOf, cNameOf};
 ghost use Rattle.c_payload.specs.Steps.{deltaAnswer, countAnswer, fieldAnswer};
 use c_answer::Answer;
 use c_payload::FieldAnswer;
@@ -47,13 +47,13 @@ pub fn repair(log: &[u8], dictionary: &[u8], out: &mut [u8]) -> Answer
 pub fn names(dictionary: &[u8]) -> Answer
     ensures { λ r. ⌜ r ≡ cNamesOf (now (dictionary .entry)) ⌝ }
 {
-    c_payload::hplog_names(dictionary)
+    c_names::hplog_names(dictionary)
 }
 
 pub fn name(dictionary: &[u8], i: u64) -> Answer
     ensures { λ r. ⌜ r ≡ cNameOf (now (dictionary .entry)) i ⌝ }
 {
-    c_payload::hplog_name(dictionary, i)
+    c_names::hplog_name(dictionary, i)
 }
 
 pub fn delta(payload: &[u8], at: Cursor) -> Step

@@ -1,11 +1,11 @@
--- `c_payload::hplog_name_at` meets its contract. Assumes nothing.
+-- `c_names::hplog_name_at` meets its contract. Assumes nothing.
 use mathlib.Core.Path.{ap, _∙_}
 use Rattle.verdict.specs.Rules.{given}
 use Rattle.lookup.specs.declared.Span.{Span}
-use Rattle.c_payload.specs.Names.{spanAnswer, cNameAtOf}
+use Rattle.c_names.specs.Names.{spanAnswer, cNameAtOf}
 use borrow.Author.Needs.{needs}
-use Rattle.c_payload.proofs.hplog_name_at.Statement.{statement}
-use Rattle.c_payload.proofs.hplog_name_at.Tie as tie
+use Rattle.c_names.proofs.hplog_name_at.Statement.{statement}
+use Rattle.c_names.proofs.hplog_name_at.Tie as tie
 
 returns : tie.Need-returns
 unfolding cNameAtOf

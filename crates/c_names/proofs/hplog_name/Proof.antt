@@ -1,9 +1,9 @@
--- `c_payload::hplog_name` meets its contract. Assumes nothing.
+-- `c_names::hplog_name` meets its contract. Assumes nothing.
 use mathlib.Core.Path.{ap, _∙_}
-use Rattle.c_payload.specs.Names.{spanAnswer, cNameOf}
+use Rattle.c_names.specs.Names.{spanAnswer, cNameOf}
 use borrow.Author.Needs.{needs}
-use Rattle.c_payload.proofs.hplog_name.Statement.{statement}
-use Rattle.c_payload.proofs.hplog_name.Tie as tie
+use Rattle.c_names.proofs.hplog_name.Statement.{statement}
+use Rattle.c_names.proofs.hplog_name.Tie as tie
 
 returns : tie.Need-returns
 unfolding cNameOf

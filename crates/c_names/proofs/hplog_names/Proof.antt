@@ -1,10 +1,10 @@
--- `c_payload::hplog_names` meets its contract. Assumes nothing.
+-- `c_names::hplog_names` meets its contract. Assumes nothing.
 use mathlib.Core.Path.{ap, _∙_}
 use Rattle.c_answer.specs.Answer.{answered}
-use Rattle.c_payload.specs.Names.{cNamesOf}
+use Rattle.c_names.specs.Names.{cNamesOf}
 use borrow.Author.Needs.{needs}
-use Rattle.c_payload.proofs.hplog_names.Statement.{statement}
-use Rattle.c_payload.proofs.hplog_names.Tie as tie
+use Rattle.c_names.proofs.hplog_names.Statement.{statement}
+use Rattle.c_names.proofs.hplog_names.Tie as tie
 
 returns : tie.Need-returns
 unfolding cNamesOf

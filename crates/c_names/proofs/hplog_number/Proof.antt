@@ -1,9 +1,9 @@
--- `c_payload::hplog_number` meets its contract. Assumes nothing.
+-- `c_names::hplog_number` meets its contract. Assumes nothing.
 use mathlib.Core.Path.{ap, _∙_}
-use Rattle.c_payload.specs.Names.{numberAnswer, cNumberOf}
+use Rattle.c_names.specs.Names.{numberAnswer, cNumberOf}
 use borrow.Author.Needs.{needs}
-use Rattle.c_payload.proofs.hplog_number.Statement.{statement}
-use Rattle.c_payload.proofs.hplog_number.Tie as tie
+use Rattle.c_names.proofs.hplog_number.Statement.{statement}
+use Rattle.c_names.proofs.hplog_number.Tie as tie
 
 returns : tie.Need-returns
 unfolding cNumberOf
