@@ -53,10 +53,10 @@ use Rattle.c_recovery.specs.Repair.{cRepairOf}
 use Rattle.c_query.specs.Query.{cRows, cQueryRules, cQueryOf}
 use Rattle.c_query.specs.Label.{cLabelOf}
 use Rattle.access.specs.declared.Span as access-span
-use Rattle.c_access.specs.Stored as stored
-use Rattle.c_access.specs.Header.{headerAnswer, headerIn, cHeaderOf}
-use Rattle.c_access.specs.Header as block
-use Rattle.c_access.specs.Block.{cBlockRules, cBlockOf}
+use Rattle.c_stored.specs.Stored as stored
+use Rattle.c_block.specs.Header.{headerAnswer, headerIn, cHeaderOf}
+use Rattle.c_block.specs.Header as block
+use Rattle.c_block.specs.Block.{cBlockRules, cBlockOf}
 use Rattle.book.specs.declared.Span as book-span
 use Rattle.book.specs.declared.Tally.{Tally}
 use Rattle.c_book.specs.Books as books

@@ -56,9 +56,9 @@ use Rattle.c_recovery.specs.Recover.{stopNumber, cRecoverRules, cRecoverOf}
 use Rattle.c_recovery.specs.Repair.{cRepairOf}
 use Rattle.c_query.specs.Query.{cQueryRules, cQueryOf}
 use Rattle.c_query.specs.Label.{cLabelOf}
-use Rattle.c_access.specs.Stored.{cStoredOf, cDictionaryOf}
-use Rattle.c_access.specs.Header.{headerIn, cHeaderOf}
-use Rattle.c_access.specs.Block.{cBlockRules, cBlockOf}
+use Rattle.c_stored.specs.Stored.{cStoredOf, cDictionaryOf}
+use Rattle.c_block.specs.Header.{headerIn, cHeaderOf}
+use Rattle.c_block.specs.Block.{cBlockRules, cBlockOf}
 use Rattle.c_book.specs.Books.{cBookOf, cPartsOf, cPartOf}
 use Rattle.c_listing.specs.declared.Listing.{Listing}
 use Rattle.c_listing.specs.declared.Listed as lister

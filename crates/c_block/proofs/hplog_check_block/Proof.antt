@@ -1,4 +1,4 @@
--- `c_access::hplog_check_block` meets its contract. Assumes nothing.
+-- `c_block::hplog_check_block` meets its contract. Assumes nothing.
 use mathlib.Core.Path.{_≡_, sym, ap, _∙_}
 use Prim.Native.Nat.{_+_, _≤_}
 use lib.ListN.{length}
@@ -9,10 +9,10 @@ use Rattle.parts.specs.declared.BlockHeader.{BlockHeader}
 use Rattle.blocks.specs.Blocks.{headAt}
 use Rattle.entries.specs.Block.{blockVerdict}
 use Rattle.c_answer.specs.Answer.{answered}
-use Rattle.c_access.proofs.Blocks.{block-cut, block-refused, block-given}
+use Rattle.c_block.proofs.Blocks.{block-cut, block-refused, block-given}
 use borrow.Author.Needs.{needs}
-use Rattle.c_access.proofs.hplog_check_block.Statement.{statement}
-use Rattle.c_access.proofs.hplog_check_block.Tie as tie
+use Rattle.c_block.proofs.hplog_check_block.Statement.{statement}
+use Rattle.c_block.proofs.hplog_check_block.Tie as tie
 
 returns : tie.Need-returns
 returns c =

@@ -1,10 +1,10 @@
--- `c_access::header_at` meets its contract. Assumes nothing.
+-- `c_block::header_at` meets its contract. Assumes nothing.
 use mathlib.Core.Path.{sym, _∙_}
 use borrow.Author.Tests.{ltb-true, ltb-false}
-use Rattle.c_access.proofs.Headers.{header-cut, header-whole}
+use Rattle.c_block.proofs.Headers.{header-cut, header-whole}
 use borrow.Author.Needs.{needs}
-use Rattle.c_access.proofs.header_at.Statement.{statement}
-use Rattle.c_access.proofs.header_at.Tie as tie
+use Rattle.c_block.proofs.header_at.Statement.{statement}
+use Rattle.c_block.proofs.header_at.Tie as tie
 
 returns : tie.Need-returns
 returns c =

@@ -5,7 +5,7 @@ use Prim.Native.Nat.{ℕ, _+_, _≤_, _<_}
 use lib.ListN.{length}
 use Rattle.verdict.specs.Rules.{Verdict, given, settle}
 use Rattle.verdict.proofs.Laws.{most-holds, most-breaks, first-none}
-use Rattle.c_access.specs.Header.{noHeader, headerAnswer, headerOf}
+use Rattle.c_block.specs.Header.{noHeader, headerAnswer, headerOf}
 
 module _ (log : List ℕ) (at : ℕ) where
   pub header-cut : length log < at + 36 → noHeader 6 at ≡ headerOf log at

@@ -1,4 +1,4 @@
--- `c_access::hplog_block` meets its contract. Assumes nothing.
+-- `c_block::hplog_block` meets its contract. Assumes nothing.
 use mathlib.Core.Path.{_≡_, ap, _∙_}
 use mathlib.Core.List.{List}
 use Prim.Native.Nat.{ℕ, _/_}
@@ -8,11 +8,11 @@ use Rattle.rows.specs.declared.Row.{Row}
 use Rattle.rows.specs.Rows.{stride}
 use Rattle.access.specs.Access.{rowIn}
 use Rattle.access.specs.Answer.{locatedOf}
-use Rattle.c_access.specs.declared.BlockAnswer.{BlockAnswer}
-use Rattle.c_access.specs.Header.{headerRules, headerAnswer, headerOf, headerIn, cHeaderOf}
+use Rattle.c_block.specs.declared.BlockAnswer.{BlockAnswer}
+use Rattle.c_block.specs.Header.{headerRules, headerAnswer, headerOf, headerIn, cHeaderOf}
 use borrow.Author.Needs.{needs}
-use Rattle.c_access.proofs.hplog_block.Statement.{statement}
-use Rattle.c_access.proofs.hplog_block.Tie as tie
+use Rattle.c_block.proofs.hplog_block.Statement.{statement}
+use Rattle.c_block.proofs.hplog_block.Tie as tie
 
 -- the row, by the length of the rows
 located : (c : tie.After-locate) →

@@ -1,13 +1,11 @@
-// The calls on a file's stored bytes and on one block with its plain bytes for programs in C (include/hplog.h).
+// The calls on one block, its header and its plain bytes, for programs in C (include/hplog.h).
 ghost use mathlib.Core.Path.{_≡_};
 ghost use Prim.Native.Nat.{_+_};
 ghost use lib.Dec.{ltb};
 ghost use Rattle.verdict.specs.Rules.{given};
-ghost use Rattle.c_access.specs.Stored.{spanAnswer, cStoredOf, cDictionaryOf};
-ghost use Rattle.c_access.specs.Block.{cBlockOf};
-ghost use Rattle.c_access.specs.Header.{noHeader, headerAnswer, headerOf, cHeaderOf};
+ghost use Rattle.c_block.specs.Block.{cBlockOf};
+ghost use Rattle.c_block.specs.Header.{noHeader, headerAnswer, headerOf, cHeaderOf};
 use access::Located;
-use access::Span;
 use c_answer::Answer;
 use parts::BlockHeader;
 use verdict::Checked;
@@ -24,34 +22,6 @@ pub struct BlockAnswer {
     pub entries: u64,
     pub stored: u64,
     pub plain: u64,
-}
-
-fn found(p: Span) -> Answer
-    ensures { λ r. ⌜ r ≡ spanAnswer (given p) ⌝ }
-{
-    Answer {
-        number: 0,
-        place: p.place as u64,
-        count: p.length as u64,
-    }
-}
-
-#[no_mangle]
-pub extern "C" fn hplog_stored(log: &[u8], rows: &[u8], i: u64) -> Answer
-    ensures { λ r. ⌜ r ≡ cStoredOf (now (log .entry)) (now (rows .entry)) i ⌝ }
-{
-    let l = access::locate(rows, rows::room(rows) as u64, i);
-    match l {
-        Located::Row(row) => found(access::stored_span(log, row)),
-        Located::Refused(w) => c_answer::refused(w),
-    }
-}
-
-#[no_mangle]
-pub extern "C" fn hplog_dictionary(log: &[u8], frame: &[u8]) -> Answer
-    ensures { λ r. ⌜ r ≡ cDictionaryOf (now (log .entry)) (now (frame .entry)) ⌝ }
-{
-    found(access::dictionary_span(log, wire::u64_at(frame, 0), wire::u64_at(frame, 8)))
 }
 
 // Whether a log of n bytes ends within the header at a place, or before it.

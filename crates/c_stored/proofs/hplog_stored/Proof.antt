@@ -1,4 +1,4 @@
--- `c_access::hplog_stored` meets its contract. Assumes nothing.
+-- `c_stored::hplog_stored` meets its contract. Assumes nothing.
 use mathlib.Core.Path.{_≡_, ap, _∙_}
 use Prim.Native.Nat.{_/_}
 use lib.ListN.{length}
@@ -8,10 +8,10 @@ use Rattle.rows.specs.Rows.{stride}
 use Rattle.access.specs.declared.Span.{Span}
 use Rattle.access.specs.Access.{rowIn, storedSpan}
 use Rattle.access.specs.Answer.{locatedOf}
-use Rattle.c_access.specs.Stored.{spanAnswer, cStoredOf}
+use Rattle.c_stored.specs.Stored.{spanAnswer, cStoredOf}
 use borrow.Author.Needs.{needs}
-use Rattle.c_access.proofs.hplog_stored.Statement.{statement}
-use Rattle.c_access.proofs.hplog_stored.Tie as tie
+use Rattle.c_stored.proofs.hplog_stored.Statement.{statement}
+use Rattle.c_stored.proofs.hplog_stored.Tie as tie
 
 -- the row, by the length of the rows
 located : (c : tie.After-locate) →

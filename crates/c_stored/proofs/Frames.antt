@@ -11,7 +11,7 @@ use Rattle.wire.proofs.Splices.{splice-front}
 use Rattle.frame.specs.declared.Frame.{Frame}
 use Rattle.access.specs.Access.{dictionarySpan}
 use Rattle.c_open.specs.Open.{frameBytes}
-use Rattle.c_access.specs.Stored.{spanAnswer, cDictionaryOf}
+use Rattle.c_stored.specs.Stored.{spanAnswer, cDictionaryOf}
 
 frame-length : (r : Frame) → length (frameBytes r) ≡ 40
 unfolding frameBytes

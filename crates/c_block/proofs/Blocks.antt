@@ -8,7 +8,7 @@ use Rattle.verdict.proofs.Laws.{most-holds, most-breaks, first-ruled}
 use Rattle.blocks.specs.Blocks.{headAt}
 use Rattle.entries.specs.Block.{blockVerdict}
 use Rattle.c_answer.specs.Answer.{answered}
-use Rattle.c_access.specs.Block.{cBlockRules, cBlockOf}
+use Rattle.c_block.specs.Block.{cBlockRules, cBlockOf}
 
 module _ (log : List ℕ) (at : ℕ) (plain : List ℕ) (names : ℕ) where
   settled : (v : Verdict) → firstBroken (cBlockRules log at plain names) ≡ v → answered (settle v (headAt log at .entries)) ≡ cBlockOf log at plain names

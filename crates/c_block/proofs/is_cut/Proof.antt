@@ -1,10 +1,10 @@
--- `c_access::is_cut` meets its contract. Assumes nothing.
+-- `c_block::is_cut` meets its contract. Assumes nothing.
 use mathlib.Core.Path.{sym}
 use Prim.Native.Nat.{_+_}
 use native.Mathlib.Omega.{arith}
 use borrow.Author.Tests.{lt-ltb, le-ltb}
-use Rattle.c_access.proofs.is_cut.Statement.{statement}
-use Rattle.c_access.proofs.is_cut.Tie as tie
+use Rattle.c_block.proofs.is_cut.Statement.{statement}
+use Rattle.c_block.proofs.is_cut.Tie as tie
 
 returns : tie.Need-returns
 returns c = let a = c .before .args in sym (lt-ltb (a .n) (a .at + 36) (omega arith))

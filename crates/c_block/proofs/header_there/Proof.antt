@@ -1,7 +1,7 @@
--- `c_access::header_there` meets its contract. Assumes nothing.
+-- `c_block::header_there` meets its contract. Assumes nothing.
 use borrow.Author.Needs.{needs}
-use Rattle.c_access.proofs.header_there.Statement.{statement}
-use Rattle.c_access.proofs.header_there.Tie as tie
+use Rattle.c_block.proofs.header_there.Statement.{statement}
+use Rattle.c_block.proofs.header_there.Tie as tie
 
 returns : tie.Need-returns
 returns c = rw (c .before .before .before .read .ensures)

@@ -1,11 +1,11 @@
--- `c_access::hplog_dictionary` meets its contract. Assumes nothing.
+-- `c_stored::hplog_dictionary` meets its contract. Assumes nothing.
 use mathlib.Core.Path.{ap, _∙_}
 use Rattle.verdict.specs.Rules.{given}
 use Rattle.access.specs.declared.Span.{Span}
-use Rattle.c_access.specs.Stored.{spanAnswer, cDictionaryOf}
+use Rattle.c_stored.specs.Stored.{spanAnswer, cDictionaryOf}
 use borrow.Author.Needs.{needs}
-use Rattle.c_access.proofs.hplog_dictionary.Statement.{statement}
-use Rattle.c_access.proofs.hplog_dictionary.Tie as tie
+use Rattle.c_stored.proofs.hplog_dictionary.Statement.{statement}
+use Rattle.c_stored.proofs.hplog_dictionary.Tie as tie
 
 returns : tie.Need-returns
 unfolding cDictionaryOf

@@ -1,0 +1,3 @@
+-- The laws of the calls on one block at the C edge.
+pub mod Blocks
+pub mod Headers

@@ -1,0 +1,2 @@
+-- The definitions of the calls on stored bytes at the C edge. Assumes nothing.
+pub mod Stored
