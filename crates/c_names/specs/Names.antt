@@ -4,7 +4,8 @@ use Prim.Native.Nat.{ℕ}
 use Rattle.verdict.specs.Rules.{Outcome, given, refused}
 use Rattle.names.specs.Dictionary.{dictionaryOf}
 use Rattle.lookup.specs.declared.Span.{Span}
-use Rattle.lookup.specs.Lookup.{Found, numbered, missing, spanAt, lookupOf, seekOf}
+use Rattle.lookup.specs.Lookup.{spanAt, lookupOf}
+use Rattle.name_search.specs.Search.{Found, numbered, missing, seekOf}
 use Rattle.c_answer.specs.declared.Answer.{Answer}
 use Rattle.c_answer.specs.Answer.{answered}
 

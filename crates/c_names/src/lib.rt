@@ -4,8 +4,8 @@ ghost use Rattle.verdict.specs.Rules.{given};
 ghost use Rattle.c_names.specs.Names.{spanAnswer, cNamesOf, cNameOf, cNameAtOf, cNumberOf};
 use c_answer::Answer;
 use lookup::Located;
-use lookup::Sought;
 use lookup::Span;
+use name_search::Sought;
 use names::Counted;
 
 #[no_mangle]
@@ -51,7 +51,7 @@ pub extern "C" fn hplog_name_at(dictionary: &[u8], at: u64) -> Answer
 pub extern "C" fn hplog_number(dictionary: &[u8], name: &[u8]) -> Answer
     ensures { λ r. ⌜ r ≡ cNumberOf (now (dictionary .entry)) (now (name .entry)) ⌝ }
 {
-    let f = lookup::number_of(dictionary, name);
+    let f = name_search::number_of(dictionary, name);
     match f {
         Sought::Number(i) => Answer {
             number: 0,

@@ -19,7 +19,7 @@ use Rattle.layout.specs.Layout.{blockBytes, blockSize, rowFor, dictionaryBytes,
 use Rattle.layout.proofs.Parts.{length-block, length-dictionary}
 use Rattle.packing.specs.Rules.{largest}
 use Rattle.packing.specs.Table.{recordsIn, fieldsOf}
-use Rattle.lookup.specs.Lookup.{Found, numbered, missing}
+use Rattle.name_search.specs.Search.{Found, numbered, missing}
 use Rattle.writer_blocks.proofs.Blocks.{block-fits}
 use Rattle.writer.proofs.Closes.{close-good, close-fits}
 use Rattle.writer.specs.declared.state.Writer.{Writer}

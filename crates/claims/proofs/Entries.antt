@@ -31,7 +31,7 @@ use Rattle.packing.proofs.Records.{length-fields, fields-ranged}
 use Rattle.packing.proofs.Stores.{entry-length}
 use Rattle.packing.proofs.Answers.{all-within}
 use Rattle.packing.proofs.RoundTrip.{reads-behind, first-reads}
-use Rattle.lookup.specs.Lookup.{Found, numbered, missing}
+use Rattle.name_search.specs.Search.{Found, numbered, missing}
 use Rattle.writer.specs.declared.state.Writer.{Writer}
 use Rattle.writer.specs.State.{begunWriter, newWriter, isNew, isBegun, isOpen, begunRules}
 use Rattle.writer.specs.Begin.{beginRules, beginOf}

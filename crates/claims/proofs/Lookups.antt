@@ -12,8 +12,10 @@ use Rattle.wire.proofs.Lists.{drop-take, take-within}
 use Rattle.names.specs.Dictionary.{placeOf, nameAt, nextAt, nameOf, dictionaryOf}
 use Rattle.names.proofs.Places.{next-is, name-is, name-part, place-next}
 use Rattle.names.proofs.Accepted.{accepted, distinct}
-use Rattle.lookup.specs.Lookup.{spanOf, Found, numbered, missing, seekFrom, seekOf}
-use Rattle.lookup.proofs.Laws.{such, no-such, name-there, span-name, sought-found}
+use Rattle.lookup.specs.Lookup.{spanOf}
+use Rattle.lookup.proofs.Laws.{such, no-such, name-there, span-name}
+use Rattle.name_search.specs.Search.{Found, numbered, missing, seekFrom, seekOf}
+use Rattle.name_search.proofs.Laws.{sought-found}
 use Rattle.claims.specs.Calls.{Writing}
 use Rattle.claims.specs.Built.{builtNames, HoldsNames}
 use Rattle.claims.specs.Lookups.{LooksUp}

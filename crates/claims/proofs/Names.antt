@@ -18,8 +18,8 @@ use Rattle.wire.proofs.Compares.{same-refl, same-equal}
 use Rattle.utf8.specs.Utf8.{utf8Of}
 use Rattle.packing.specs.Table.{recordsIn, fieldsOf}
 use Rattle.names.specs.Dictionary.{placeOf, nameOf, dictionaryRules, dictionaryOf}
-use Rattle.lookup.specs.Lookup.{Found, numbered, missing, isName, seekFrom}
-use Rattle.lookup.proofs.Laws.{whole-name, name-same}
+use Rattle.name_search.specs.Search.{Found, numbered, missing, isName, seekFrom}
+use Rattle.name_search.proofs.Laws.{whole-name, name-same}
 use Rattle.writer.specs.declared.state.Turn.{Turn}
 use Rattle.writer.specs.declared.state.Turn.the-variants as turn
 use Rattle.writer.specs.declared.state.Writer.{Writer}

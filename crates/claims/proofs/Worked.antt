@@ -35,7 +35,7 @@ use Rattle.packing.specs.Rules as packing
 use Rattle.packing.specs.Table.{recordsIn, valueFor, recordAt, recordsFrom, fieldsOf}
 use Rattle.names.specs.Dictionary.{nameAt, nextAt, held, shapeRules, newRule, namesRules}
 use Rattle.names.specs.Dictionary as dictionary
-use Rattle.lookup.specs.Lookup.{isName, seekFrom}
+use Rattle.name_search.specs.Search.{isName, seekFrom}
 use Rattle.label.specs.Label.{printable, printRules, labelRules, shortened, labelOf, padded, abridged, labelBytes, labelOut}
 use Rattle.query.specs.Query.{listed, chosen, queryRules, queryOf, queryOut}
 use Rattle.query.specs.Query as query

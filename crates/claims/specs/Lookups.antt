@@ -3,7 +3,8 @@ use mathlib.Core.Path.{_≡_}
 use mathlib.Core.List.{List}
 use Prim.Native.Nat.{ℕ, _≤_, _<_}
 use Rattle.verdict.specs.Rules.{given, refused}
-use Rattle.lookup.specs.Lookup.{spanOf, lookupOf, nameIn, numbered, missing, seekOf}
+use Rattle.lookup.specs.Lookup.{spanOf, lookupOf, nameIn}
+use Rattle.name_search.specs.Search.{numbered, missing, seekOf}
 
 -- lookup in a plain dictionary finds these names, so many of them
 pub record LooksUp (s : List ℕ) (count : ℕ) (name : ℕ → List ℕ) : Type 0 where

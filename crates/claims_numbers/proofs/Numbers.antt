@@ -25,7 +25,8 @@ use Rattle.entries.specs.Block.{blockVerdict}
 use Rattle.packing.specs.Rules as packing
 use Rattle.names.specs.Dictionary as names
 use Rattle.lookup.specs.declared.Span.{Span}
-use Rattle.lookup.specs.Lookup.{Found, numbered, missing, lookupOf, seekOf}
+use Rattle.lookup.specs.Lookup.{lookupOf}
+use Rattle.name_search.specs.Search.{Found, numbered, missing, seekOf}
 use Rattle.label.specs.Label.{labelOf}
 use Rattle.frame.specs.Frame as frame
 use Rattle.reader.specs.Open as reader

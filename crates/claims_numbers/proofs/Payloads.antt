@@ -20,7 +20,8 @@ use Rattle.entries.specs.Block as block
 use Rattle.packing.specs.Rules as packing
 use Rattle.packing.proofs.Answers.{and-both}
 use Rattle.names.specs.Dictionary as names
-use Rattle.lookup.specs.Lookup.{spanOf, lookupOf, seekOf}
+use Rattle.lookup.specs.Lookup.{spanOf, lookupOf}
+use Rattle.name_search.specs.Search.{seekOf}
 use Rattle.label.specs.Label as label
 use Rattle.claims_numbers.specs.Numbers.{inTable, Listed, deltaVerdict, countVerdict, fieldVerdict, entryVerdict}
 

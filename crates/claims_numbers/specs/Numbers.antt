@@ -30,7 +30,8 @@ use Rattle.entries.specs.Answers.{restAt}
 use Rattle.entries.specs.Block.{blockVerdict}
 use Rattle.packing.specs.Rules.{packRules}
 use Rattle.names.specs.Dictionary.{dictionaryOf}
-use Rattle.lookup.specs.Lookup.{lookupOf, seekOf}
+use Rattle.lookup.specs.Lookup.{lookupOf}
+use Rattle.name_search.specs.Search.{seekOf}
 use Rattle.label.specs.Label.{labelOf}
 use Rattle.frame.specs.Frame.{dictionaryRules, checkedOf}
 use Rattle.reader.specs.Open.{openRules, openOf}

@@ -3,7 +3,7 @@ use crate::held;
 use entries::Entries;
 use label::Labelled;
 use lookup::Located;
-use lookup::Sought;
+use name_search::Sought;
 use names::Counted;
 use parts::Epoch;
 use query::Queried;
@@ -190,7 +190,7 @@ pub fn number(s: &[u8], out: &mut [u8]) -> usize
 {
     let n = wire::u8_at(s, 0) as usize;
     let dictionary = wire::part_at(s, 1 + n, s.len());
-    let f = lookup::number_of(dictionary, wire::part_at(s, 1, n));
+    let f = name_search::number_of(dictionary, wire::part_at(s, 1, n));
     match f {
         Sought::Number(i) => test_text::with_decimal(out, 0, i as u64),
         Sought::Missing => test_text::with(out, 0, b"missing"),
