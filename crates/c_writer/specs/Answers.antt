@@ -1,4 +1,5 @@
--- What the writer's calls answer at the C edge: "on a refusal it is the state that was taken" (include/hplog.h). Assumes nothing.
+-- What the writer's calls answer at the C edge: "on a refusal it is the state that was taken" (include/hplog.h).
+-- Assumes nothing.
 use Prim.Native.Nat.{ℕ}
 use Rattle.verdict.specs.Rules.{Outcome, given, refused}
 use Rattle.writer.specs.declared.state.Writer.{Writer}
@@ -9,7 +10,7 @@ use Rattle.c_writer.specs.declared.State.{State}
 use Rattle.c_writer.specs.declared.Written.{Written}
 use Rattle.c_writer.specs.State.{stateOf}
 
--- the state behind a call, and its count
+-- the state after a call, and its count
 abbrev pub went : Writer → (count : ℕ) → Written
 went w count = record { answer = answered (given count); next = stateOf w }
 

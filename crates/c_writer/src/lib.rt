@@ -4,7 +4,7 @@ ghost use lib.ListN.{length};
 ghost use Rattle.packing.specs.Table.{recordsIn, fieldsOf};
 ghost use Rattle.writer.specs.State.{newWriter};
 ghost use Rattle.writer.specs.Begin.{beginOf, beginOut};
-ghost use Rattle.writer.specs.Close.{closeOf, closeOut};
+ghost use Rattle.writer_close.specs.Close.{closeOf, closeOut};
 ghost use Rattle.writer.specs.Answer.{storedOf};
 ghost use Rattle.writer_names.specs.Name.{nameOf, nameOut};
 ghost use Rattle.writer_entries.specs.Entry.{entryOf, entryOut};
@@ -137,7 +137,10 @@ pub extern "C" fn hplog_writer_new() -> State
 
 #[no_mangle]
 pub extern "C" fn hplog_begin(state: State, out: &mut [u8]) -> Written
-    ensures { λ r. ⌜ (r ≡ storing state (beginOf (writerIn state) (length (now (out .entry))))) × (now (out .exit) ≡ beginOut (writerIn state) (now (out .entry))) ⌝ }
+    ensures { λ r. ⌜ (
+        let w = writerIn state in
+        let before = now (out .entry) in
+        (r ≡ storing state (beginOf w (length before))) × (now (out .exit) ≡ beginOut w before)) ⌝ }
 {
     let w = writer_in(state);
     let r = w.begin(out);
@@ -146,7 +149,11 @@ pub extern "C" fn hplog_begin(state: State, out: &mut [u8]) -> Written
 
 #[no_mangle]
 pub extern "C" fn hplog_add_name(state: State, dictionary: &mut [u8], name: &[u8]) -> Written
-    ensures { λ r. ⌜ (r ≡ naming state (nameOf (writerIn state) (now (dictionary .entry)) (now (name .entry)))) × (now (dictionary .exit) ≡ nameOut (writerIn state) (now (dictionary .entry)) (now (name .entry))) ⌝ }
+    ensures { λ r. ⌜ (
+        let w = writerIn state in
+        let before = now (dictionary .entry) in
+        let text = now (name .entry) in
+        (r ≡ naming state (nameOf w before text)) × (now (dictionary .exit) ≡ nameOut w before text)) ⌝ }
 {
     let w = writer_in(state);
     let r = writer_names::add_name(w, dictionary, name);
@@ -164,8 +171,18 @@ pub extern "C" fn hplog_add_entry(
     fields: &[u8],
     text: &[u8],
 ) -> Written
-    ensures answer { λ r. ⌜ r ≡ entering state (entryOf (writerIn state) (record { 0 = time }) (now (text .entry)) (recordsIn (now (fields .entry))) (fieldsOf (now (fields .entry))) (length (now (payload .entry)))) ⌝ }
-    ensures bytes { λ _. ⌜ now (payload .exit) ≡ entryOut (writerIn state) (record { 0 = time }) (now (text .entry)) (recordsIn (now (fields .entry))) (fieldsOf (now (fields .entry))) (now (payload .entry)) ⌝ }
+    ensures answer { λ r. ⌜ (
+        let w = writerIn state in
+        let bytes = now (text .entry) in
+        let records = now (fields .entry) in
+        let room = length (now (payload .entry)) in
+        r ≡ entering state (entryOf w (record { 0 = time }) bytes (recordsIn records) (fieldsOf records) room)) ⌝ }
+    ensures bytes { λ _. ⌜ (
+        let w = writerIn state in
+        let bytes = now (text .entry) in
+        let records = now (fields .entry) in
+        let before = now (payload .entry) in
+        now (payload .exit) ≡ entryOut w (record { 0 = time }) bytes (recordsIn records) (fieldsOf records) before) ⌝ }
 {
     let w = writer_in(state);
     let r = writer_entries::add_entry(w, payload, Epoch(time), fields, text);
@@ -217,6 +234,6 @@ pub extern "C" fn hplog_close(
         × (now (out .exit) ≡ closeOut w table names dictionary before)) ⌝ }
 {
     let w = writer_in(state);
-    let r = w.close(rows, out, plain, stored);
+    let r = writer_close::close(w, rows, out, plain, stored);
     stored_by(state, r)
 }

@@ -20,7 +20,7 @@ use Rattle.writer.specs.declared.state.Writer.{Writer}
 use Rattle.writer.specs.State.{isNew, isOpen, begunRules, begunWriter, newWriter}
 use Rattle.writer.specs.Begin.{beginRules}
 use Rattle.writer_blocks.specs.Block.{Adding, readBy, blockFor, takeRules, storeRules, blockRules, blockOf, rowsOut}
-use Rattle.writer.specs.Close.{endRules, lastRules, lastBytes, closeRules, closeOf}
+use Rattle.writer_close.specs.Close.{endRules, lastRules, lastBytes, closeRules, closeOf}
 use Rattle.writer.proofs.Beginning.{begin-sound}
 use Rattle.disk.proofs.Blocks.{length-blocks}
 use Rattle.claims.specs.Calls.{Call, begin, block, close, verdictFor, next, accepted, last, run, addings}

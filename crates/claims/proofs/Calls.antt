@@ -21,14 +21,14 @@ use Rattle.packing.specs.Rules.{largest}
 use Rattle.packing.specs.Table.{recordsIn, fieldsOf}
 use Rattle.name_search.specs.Search.{Found, numbered, missing}
 use Rattle.writer_blocks.proofs.Blocks.{block-fits}
-use Rattle.writer.proofs.Closes.{close-good, close-fits}
+use Rattle.writer_close.proofs.Closes.{close-good, close-fits}
 use Rattle.writer.specs.declared.state.Writer.{Writer}
 use Rattle.writer.specs.State.{begunWriter, begunRules}
 use Rattle.writer.specs.Begin.{firstBytes, beginRules, beginOf, beginOut}
 use Rattle.writer_names.specs.Name.{nameRules, heldAs, namingOf, withName, nameOf, nameOut}
 use Rattle.writer_entries.specs.Entry.{entryRules, withEntry, entryOf}
 use Rattle.writer_blocks.specs.Block.{Adding, readBy, blockFor, takeRules, blockRules, withBlock, blockOf, rowsOut, blockOut}
-use Rattle.writer.specs.Close.{lastBytes, closeRules, closed, closeOf, closeOut}
+use Rattle.writer_close.specs.Close.{lastBytes, closeRules, closed, closeOf, closeOut}
 use Rattle.disk.specs.Disk.{headerStore, blockStore}
 use Rattle.disk.proofs.Stores.{closingStores}
 use Rattle.claims.specs.Calls.{begin, name, entry, block, close, next, lastStores, handed, stores, accepted}

@@ -11,7 +11,7 @@ use Rattle.writer.specs.declared.state.Turn.the-variants as turn
 use Rattle.writer.specs.declared.state.Writer.{Writer}
 use Rattle.writer.specs.State.{newWriter, begunRules}
 use Rattle.writer.specs.Begin.{beginRules, beginOf}
-use Rattle.writer.specs.Close.{closeRules, closed, closeOf}
+use Rattle.writer_close.specs.Close.{closeRules, closed, closeOf}
 use Rattle.writer.proofs.Turns.{not-begun, new-turn, closed-turn}
 use Rattle.writer.proofs.Beginning.{begin-turn}
 use Rattle.writer_names.specs.Name.{nameRules}

@@ -18,7 +18,7 @@ use Rattle.writer.specs.Begin.{beginRules, beginOf, beginOut}
 use Rattle.writer_names.specs.Name.{nameRules, nameOf, nameOut}
 use Rattle.writer_entries.specs.Entry.{entryRules, entryOf, entryOut}
 use Rattle.writer_blocks.specs.Block.{blockRules, blockOf, rowsOut, blockOut}
-use Rattle.writer.specs.Close.{closeRules, closeOf, closeOut}
+use Rattle.writer_close.specs.Close.{closeRules, closeOf, closeOut}
 use Rattle.claims.specs.Calls.{Call, begin, name, entry, block, close, verdictFor, next, lentTo, leftBy, stores, accepted}
 use Rattle.claims.specs.Demand1.{RefusalsLeave}
 

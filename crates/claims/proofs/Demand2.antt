@@ -21,7 +21,7 @@ use Rattle.reader.specs.Open.{openOf, openOut}
 use Rattle.access.specs.Access.{rowIn, dictionaryIn}
 use Rattle.writer.specs.State.{begunWriter, newWriter}
 use Rattle.writer_blocks.specs.Block.{Adding, readBy, blockFor}
-use Rattle.writer.proofs.Closes.{close-good}
+use Rattle.writer_close.proofs.Closes.{close-good}
 use Rattle.disk.proofs.Opens.{finishedFile, finishedFrame, opens, frame-finished, dictionary-finished, head-finished, stored-finished, row-finished}
 use Rattle.disk.proofs.Readings.{more-names, block-finished}
 use Rattle.claims.specs.Calls.{Call, close, run, addings, newWriting, Fair, Closes, fileOf}

@@ -39,11 +39,11 @@ use Rattle.writer_names.specs.Name.{heldAs, nameRules, withName, namingOf}
 use Rattle.writer_names.specs.Name as writer
 use Rattle.writer_entries.specs.Entry.{startFor, earliestFor, deltaFor, timeRules, entryRules, withEntry, entryOf, entryOut}
 use Rattle.writer_blocks.specs.Block.{Adding, readBy, blockFor, takeRules, storeRules, blockRules, withBlock, blockOf}
-use Rattle.writer.specs.Close.{closeRules, closed, closeOf}
+use Rattle.writer_close.specs.Close.{closeRules, closed, closeOf}
 use Rattle.writer.proofs.Turns.{turn-begun, bounded}
 use Rattle.writer_entries.proofs.Entries.{start-open, earliest-open, start-new, earliest-new, time-from}
 use Rattle.writer_blocks.proofs.Blocks.{take-sound, room-sound}
-use Rattle.writer.proofs.Closes.{close-good}
+use Rattle.writer_close.proofs.Closes.{close-good}
 use Rattle.claims.specs.Calls.{Call, begin, name, entry, block, close, verdictFor, next}
 use Rattle.claims.specs.Calls.{Writing, newWriting, payloadAfter, after, behind, Typed, Agrees, Fair}
 use Rattle.claims.specs.Built.{openAfter, openBehind, entriesOpen, builtPlain, openAdding, Addable, HoldsEntries, EntriesBuilt}

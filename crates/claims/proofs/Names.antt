@@ -29,7 +29,7 @@ use Rattle.writer_names.specs.Name.{Naming, heldAs, newRules, unlessHeld, nameR
 use Rattle.writer_names.specs.Name as writer
 use Rattle.writer_entries.specs.Entry.{entryRules, withEntry, entryOf}
 use Rattle.writer_blocks.specs.Block.{blockRules, withBlock, blockOf}
-use Rattle.writer.specs.Close.{lastBytes, endRules, lastRules, closeRules, closed, closeOf}
+use Rattle.writer_close.specs.Close.{lastBytes, endRules, lastRules, closeRules, closed, closeOf}
 use Rattle.writer.proofs.Turns.{turn-begun}
 use Rattle.writer_names.proofs.Names.{name-held, name-bounded}
 use Rattle.writer.proofs.Beginning.{begin-bounded}

@@ -19,7 +19,7 @@ use Rattle.writer.specs.declared.state.Writer.{Writer}
 use Rattle.writer.specs.State.{isBegun, begunRules, begunWriter}
 use Rattle.writer.specs.Begin.{beginRules}
 use Rattle.writer_blocks.specs.Block.{Adding, blockFor, takeRules, blockRules, withBlock, blockOf, rowsOut}
-use Rattle.writer.specs.Close.{closeRules, closed, closeOf}
+use Rattle.writer_close.specs.Close.{closeRules, closed, closeOf}
 use Rattle.writer.proofs.Turns.{not-begun, new-turn, begun-turn, closed-turn}
 use Rattle.writer.proofs.Beginning.{begin-turn}
 use Rattle.disk.specs.Disk.{Store, blockStore, addingOf}

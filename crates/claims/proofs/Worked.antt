@@ -52,7 +52,7 @@ use Rattle.writer_names.specs.Name as name
 use Rattle.writer_entries.specs.Entry.{startFor, earliestFor, deltaFor, timeRules, entryRules, withEntry, entryOf, entryOut}
 use Rattle.writer_blocks.specs.Block.{readBy, blockFor, takeRules, withBlock, blockOf, rowsOut, blockOut}
 use Rattle.writer_blocks.specs.Block as block
-use Rattle.writer.specs.Close.{lastBytes, endRules, lastRules, closeRules, closeOf, closeOut}
+use Rattle.writer_close.specs.Close.{lastBytes, endRules, lastRules, closeRules, closeOf, closeOut}
 use Rattle.disk.specs.Disk.{storeBytes, total, headed, put, disk}
 use Rattle.claims.specs.Calls.{verdictFor, next, lastStores, handed, stores, run, dictionaryAfter, payloadAfter, tableAfter, behind, Fair}
 use Rattle.claims.specs.Built.{namesBytes, plainNames}

@@ -10,7 +10,7 @@ use Rattle.packing.specs.Table.{recordsIn, fieldsOf}
 use Rattle.writer.specs.declared.state.Writer.{Writer}
 use Rattle.writer.specs.State.{newWriter}
 use Rattle.writer.specs.Begin.{Step, beginOf, beginOut}
-use Rattle.writer.specs.Close.{closeOf, closeOut}
+use Rattle.writer_close.specs.Close.{closeOf, closeOut}
 use Rattle.writer_names.specs.Name.{Naming, nameOf}
 use Rattle.writer_entries.specs.Entry.{entryOf}
 use Rattle.writer_blocks.specs.Block.{blockOf, blockOut}

@@ -9,7 +9,7 @@ use Rattle.verdict.specs.Rules.{sound, broken}
 use Rattle.packing.specs.Table.{recordsIn, fieldsOf}
 use Rattle.writer.specs.State.{newWriter}
 use Rattle.writer.specs.Begin.{beginOf, beginOut}
-use Rattle.writer.specs.Close.{closeOf, closeOut}
+use Rattle.writer_close.specs.Close.{closeOf, closeOut}
 use Rattle.writer_names.specs.Name.{nameOf, nameOut}
 use Rattle.writer_entries.specs.Entry.{entryOf, entryOut}
 use Rattle.writer_blocks.specs.Block.{blockOf, rowsOut, blockOut}

@@ -39,7 +39,7 @@ use Rattle.repair.specs.Repair as repair
 use Rattle.writer.specs.declared.state.Writer.{Writer}
 use Rattle.writer.specs.State.{boundRules, begunRules}
 use Rattle.writer.specs.Begin.{Step, beginRules, beginOf}
-use Rattle.writer.specs.Close.{endRules, lastRules, closeRules, closeOf}
+use Rattle.writer_close.specs.Close.{endRules, lastRules, closeRules, closeOf}
 use Rattle.writer_names.specs.Name as naming
 use Rattle.writer_entries.specs.Entry as entering
 use Rattle.writer_blocks.specs.Block.{Adding, readBy, takeRules, storeRules, blockRules, blockOf}

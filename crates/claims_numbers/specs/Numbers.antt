@@ -44,7 +44,7 @@ use Rattle.repair.specs.Repair.{repairOf}
 use Rattle.writer.specs.declared.state.Writer.{Writer}
 use Rattle.writer.specs.State.{begunRules}
 use Rattle.writer.specs.Begin.{beginOf}
-use Rattle.writer.specs.Close.{closeOf}
+use Rattle.writer_close.specs.Close.{closeOf}
 use Rattle.writer_names.specs.Name.{nameOf}
 use Rattle.writer_entries.specs.Entry.{entryOf}
 use Rattle.writer_blocks.specs.Block.{Adding, blockOf}

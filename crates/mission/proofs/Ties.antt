@@ -13,7 +13,7 @@ use Rattle.repair.specs.Repair.{Kept, repairOf, repairOut}
 use Rattle.writer.specs.declared.state.Writer.{Writer}
 use Rattle.writer.specs.State.{newWriter}
 use Rattle.writer.specs.Begin.{Step, beginOf, beginOut}
-use Rattle.writer.specs.Close.{closeOf, closeOut}
+use Rattle.writer_close.specs.Close.{closeOf, closeOut}
 use Rattle.writer_names.specs.Name.{Naming, nameOf, nameOut}
 use Rattle.writer_entries.specs.Entry.{entryOf, entryOut}
 use Rattle.writer_blocks.specs.Block.{Adding, blockOf, rowsOut, blockOut}

@@ -64,5 +64,5 @@ pub fn close(w: Writer, table: &[u8], out: &mut [u8], plain: &[u8], stored: &[u8
         let call = close (now (table .entry)) (now (plain .entry)) (now (stored .entry)) (now (out .entry)) in
         Storing w call (storedOf r) (now (table .entry)) (now (out .exit))) ⌝ }
 {
-    w.close(table, out, plain, stored)
+    writer_close::close(w, table, out, plain, stored)
 }

@@ -6,7 +6,7 @@ use lib.ListN.{length}
 use Rattle.parts.specs.declared.time.Epoch.{Epoch}
 use Rattle.packing.specs.Table.{recordsIn, fieldsOf}
 use Rattle.writer.specs.Begin.{beginOf, beginOut}
-use Rattle.writer.specs.Close.{closeOf, closeOut}
+use Rattle.writer_close.specs.Close.{closeOf, closeOut}
 use Rattle.writer_names.specs.Name.{nameOf, nameOut}
 use Rattle.writer_entries.specs.Entry.{entryOf, entryOut}
 use Rattle.writer_blocks.specs.Block.{Adding, blockOf, rowsOut, blockOut}

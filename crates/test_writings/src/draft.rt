@@ -311,7 +311,7 @@ fn close_with(
     out: &mut [u8],
 ) -> Stored {
     let n = test_text::reach(&*out, 0, room);
-    w.close(table, &mut out[..n], plain, stored)
+    writer_close::close(w, table, &mut out[..n], plain, stored)
 }
 
 // Closing with a plain and a stored dictionary in hexadecimal.
