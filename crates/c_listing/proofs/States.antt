@@ -1,7 +1,7 @@
 -- A kind that is none of a listing's is the end. Assumes nothing.
 use mathlib.Core.Path.{_≡_, refl}
 use Prim.Native.Nat.{ℕ, zero, suc}
-use Rattle.listing_states.specs.declared.State.the-variants.{End}
+use Rattle.listing_places.specs.declared.State.the-variants.{End}
 use Rattle.c_listing.specs.declared.Listing.{Listing}
 use Rattle.c_listing.specs.Listing.{stateFor}
 

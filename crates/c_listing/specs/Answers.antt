@@ -6,7 +6,7 @@ use Rattle.verdict.specs.Rules.{given, onGiven}
 use Rattle.contents.specs.Contents.{contentsOf}
 use Rattle.listing_tokens.specs.declared.Token.{Token}
 use Rattle.listing_tokens.specs.Tokens.{joined}
-use Rattle.listing_states.specs.Listing.{tokensFrom}
+use Rattle.listing_places.specs.Listing.{tokensFrom}
 use Rattle.listing_pieces.specs.Steps.{Rendered}
 use Rattle.listing_input.specs.Printed.{printedOf}
 use Rattle.listing_input.specs.Ranges.{rangeOf, rangeText}

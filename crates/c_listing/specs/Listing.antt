@@ -1,8 +1,8 @@
 -- Where a listing stands, as a struct for programs in C. Assumes nothing.
 use Prim.Native.Nat.{ℕ, zero, suc}
-use Rattle.listing_states.specs.declared.Place.{Place}
-use Rattle.listing_states.specs.declared.State.{State}
-use Rattle.listing_states.specs.declared.State.the-variants.{Blocks, Entries, Entry, Fields, Name, Value, Text, Refused, End}
+use Rattle.listing_places.specs.declared.Place.{Place}
+use Rattle.listing_places.specs.declared.State.{State}
+use Rattle.listing_places.specs.declared.State.the-variants.{Blocks, Entries, Entry, Fields, Name, Value, Text, Refused, End}
 use Rattle.c_listing.specs.declared.Listing.{Listing}
 
 abbrev pub placeIn : Listing → Place

@@ -4,9 +4,9 @@ ghost use Rattle.c_listing.specs.Listing.{placeIn, stateIn, listingAt, l
 ghost use Rattle.c_listing.specs.Answers.{Started, StartedRange, Went};
 use c_answer::Answer;
 use contents::Contents;
-use listing_states::Place;
-use listing_states::Range;
-use listing_states::State;
+use listing_places::Place;
+use listing_places::Range;
+use listing_places::State;
 use parts::Epoch;
 use verdict::Refusal;
 
