@@ -10,11 +10,11 @@ use Rattle.listing_places.specs.Listing.{tokensFrom}
 use Rattle.listing_pieces.specs.Steps.{Rendered}
 use Rattle.listing_input.specs.Printed.{printedOf}
 use Rattle.listing_input.specs.Ranges.{rangeOf, rangeText}
+use Rattle.listing_numbers.specs.declared.Listing.{Listing}
+use Rattle.listing_numbers.specs.Listing.{stateIn}
 use Rattle.c_answer.specs.declared.Answer.{Answer}
 use Rattle.c_answer.specs.Answer.{answered}
-use Rattle.c_listing.specs.declared.Listing.{Listing}
 use Rattle.c_listing.specs.declared.Listed.{Listed}
-use Rattle.c_listing.specs.Listing.{stateIn}
 
 -- the tokens that a listing of a log and its book has left
 abbrev pub left : (log book : List ℕ) → Listing → List Token

@@ -1,3 +1,2 @@
 -- The definitions of the listing at the C edge. Assumes nothing.
-pub mod Listing
 pub mod Answers

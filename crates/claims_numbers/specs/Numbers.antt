@@ -61,7 +61,7 @@ use Rattle.c_stored.specs.Stored.{cStoredOf, cDictionaryOf}
 use Rattle.c_block.specs.Header.{headerIn, cHeaderOf}
 use Rattle.c_block.specs.Block.{cBlockRules, cBlockOf}
 use Rattle.c_book.specs.Books.{cBookOf, cPartsOf, cPartOf}
-use Rattle.c_listing.specs.declared.Listing.{Listing}
+use Rattle.listing_numbers.specs.declared.Listing.{Listing}
 use Rattle.c_listing.specs.declared.Listed as lister
 use Rattle.c_listing.specs.Answers.{cListOf, cRangeOf, Went}
 use Rattle.c_writer.specs.declared.State.{State}

@@ -1,9 +1,9 @@
--- `c_listing::state_of` meets its contract. Assumes nothing.
-use Rattle.c_listing.specs.Listing.{stateIn, stateFor}
-use Rattle.c_listing.proofs.States.{state-other}
+-- `listing_numbers::state_of` meets its contract. Assumes nothing.
+use Rattle.listing_numbers.specs.Listing.{stateIn, stateFor}
+use Rattle.listing_numbers.proofs.States.{state-other}
 use borrow.Author.Needs.{needs}
-use Rattle.c_listing.proofs.state_of.Statement.{statement}
-use Rattle.c_listing.proofs.state_of.Tie as tie
+use Rattle.listing_numbers.proofs.state_of.Statement.{statement}
+use Rattle.listing_numbers.proofs.state_of.Tie as tie
 
 returns : tie.Need-returns
 unfolding stateIn stateFor

@@ -2,8 +2,9 @@
 use Prim.Native.Nat.{ℕ, zero, suc}
 use Rattle.listing_places.specs.declared.Place.{Place}
 use Rattle.listing_places.specs.declared.State.{State}
-use Rattle.listing_places.specs.declared.State.the-variants.{Blocks, Entries, Entry, Fields, Name, Value, Text, Refused, End}
-use Rattle.c_listing.specs.declared.Listing.{Listing}
+use Rattle.listing_places.specs.declared.State.the-variants.{Blocks, Entries, Entry, Fields, Name, Value, Text}
+use Rattle.listing_places.specs.declared.State.the-variants.{Refused, End}
+use Rattle.listing_numbers.specs.declared.Listing.{Listing}
 
 abbrev pub placeIn : Listing → Place
 placeIn l =
@@ -30,7 +31,8 @@ stateFor (suc (suc (suc (suc zero)))) l = Fields (placeIn l)
 stateFor (suc (suc (suc (suc (suc zero))))) l = Name (placeIn l) (l .from) (l .left)
 stateFor (suc (suc (suc (suc (suc (suc zero)))))) l = Value (placeIn l)
 stateFor (suc (suc (suc (suc (suc (suc (suc zero))))))) l = Text (placeIn l) (l .from) (l .left)
-stateFor (suc (suc (suc (suc (suc (suc (suc (suc zero)))))))) l = Refused (record { number = l .fields; place = l .from })
+stateFor (suc (suc (suc (suc (suc (suc (suc (suc zero)))))))) l =
+    Refused (record { number = l .fields; place = l .from })
 stateFor (suc (suc (suc (suc (suc (suc (suc (suc (suc k))))))))) l = End
 
 unfoldable pub stateIn : Listing → State

@@ -2,10 +2,11 @@
 use mathlib.Core.Path.{_≡_, refl}
 use Prim.Native.Nat.{ℕ, zero, suc}
 use Rattle.listing_places.specs.declared.State.the-variants.{End}
-use Rattle.c_listing.specs.declared.Listing.{Listing}
-use Rattle.c_listing.specs.Listing.{stateFor}
+use Rattle.listing_numbers.specs.declared.Listing.{Listing}
+use Rattle.listing_numbers.specs.Listing.{stateFor}
 
-pub state-other : (k : ℕ) (l : Listing) → (k ≡ 1 → ⊥) → (k ≡ 2 → ⊥) → (k ≡ 3 → ⊥) → (k ≡ 4 → ⊥) → (k ≡ 5 → ⊥) → (k ≡ 6 → ⊥) → (k ≡ 7 → ⊥) → (k ≡ 8 → ⊥) → End ≡ stateFor k l
+pub state-other : (k : ℕ) (l : Listing)
+    → (k ≡ 1 → ⊥) → (k ≡ 2 → ⊥) → (k ≡ 3 → ⊥) → (k ≡ 4 → ⊥) → (k ≡ 5 → ⊥) → (k ≡ 6 → ⊥) → (k ≡ 7 → ⊥) → (k ≡ 8 → ⊥) → End ≡ stateFor k l
 unfolding stateFor
 state-other zero l a b c d e f g h = refl
 state-other (suc zero) l a b c d e f g h = absurd (a refl)

@@ -1,9 +1,9 @@
--- `c_listing::listing_of` meets its contract. Assumes nothing.
+-- `listing_numbers::listing_of` meets its contract. Assumes nothing.
 use mathlib.Core.Path.{sym}
-use Rattle.c_listing.specs.Listing.{stateIn, stateFor}
+use Rattle.listing_numbers.specs.Listing.{stateIn, stateFor}
 use borrow.Author.Needs.{needs}
-use Rattle.c_listing.proofs.listing_of.Statement.{statement}
-use Rattle.c_listing.proofs.listing_of.Tie as tie
+use Rattle.listing_numbers.proofs.listing_of.Statement.{statement}
+use Rattle.listing_numbers.proofs.listing_of.Tie as tie
 
 returns : tie.Need-returns
 unfolding stateIn stateFor

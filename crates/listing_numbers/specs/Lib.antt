@@ -1,0 +1,2 @@
+-- The definitions of a listing in numbers. Assumes nothing.
+pub mod Listing
