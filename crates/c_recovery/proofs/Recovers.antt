@@ -37,7 +37,8 @@ module _ (log : List ℕ) (rows : ℕ) where
     short-rows h =
         let l = length-table (reportOf log .rows) in
         let m : length (tableBytes (reportOf log .rows)) ≡ c .blocks * stride = omega (arith, l, passes .1) in
-        let b = then-sound (recoverRules log) (roomRules (reportOf log .rows) rows) (passes .0) ∙ least-breaks _ _ _ _ _ (omega (arith, m, h)) ∙ ap (broken 12) m in
+        let b = then-sound (recoverRules log) (roomRules (reportOf log .rows) rows) (passes .0) ∙ least-breaks _ _ _ _ _ (omega (arith, m, h))
+        ∙ ap (broken 12) m in
         rw (lacking-broken (recoverRules log ++ roomRules (reportOf log .rows) rows) 32 12 (c .blocks * stride) b)
 
     pub short-report : c .blocks * stride ≤ rows
@@ -45,7 +46,8 @@ module _ (log : List ℕ) (rows : ℕ) where
     unfolding callRules roomRules
     short-report h =
         let l = length-table (reportOf log .rows) in
-        let b = then-sound (recoverRules log) (roomRules (reportOf log .rows) rows) (passes .0) ∙ least-holds _ _ _ _ _ (omega (arith, l, passes .1, h)) ∙ first-none in
+        let b = then-sound (recoverRules log) (roomRules (reportOf log .rows) rows) (passes .0) ∙ least-holds _ _ _ _ _ (omega (arith, l, passes .1, h))
+        ∙ first-none in
         rw (lacking-sound (recoverRules log ++ roomRules (reportOf log .rows) rows) 32 b)
 
 -- ---- the whole call

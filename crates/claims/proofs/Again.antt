@@ -113,7 +113,8 @@ module _ (out : List ℕ) where
       let z : length u ≡ length t =
       ap length (block-row w t a out s) ∙ length-splice t 0 (tableBytes (rowsWith r (rowsOf (w .blocks) t))) in
       let g : next w (block t a out) ≡ taken.after begunWriter (xs ++ (a ∷ [])) = block-leaves w t a out s ∙ rw (e, after-more a begunWriter xs) in
-      let i = add-all (xs ++ (a ∷ [])) ys (after h (block t a out)) u (block-between xs w t b a out y s) g (rw s refl) (rw j k) (rw j (omega arith)) (suc n) (f .1) in
+      let i = add-all (xs ++ (a ∷ [])) ys (after h (block t a out)) u (block-between xs w t b a out y s) g (rw s refl) (rw j k) (rw j (omega arith)) (suc n)
+      (f .1) in
       record {
         fair = ((y, λ v. m), i .fair);
         adds = rw (block-accepted w t a out s) (ap (λ (l : List Adding). a ∷ l) (i .adds));

@@ -104,7 +104,8 @@ module _ (w : Writer) (out : List ℕ) (e : firstBroken (beginRules w (length ou
 
   pub begin-stores : stores w (begin out) ≡ headerStore (headerBytes emptyHeader) ∷ []
   unfolding stores handed beginOf beginOut firstBytes
-  begin-stores = rw e (ap (λ (x : List ℕ). headerStore x ∷ []) (laid-first out (headerBytes emptyHeader) 64 (sym (length-header emptyHeader)) (rw length-header begin-room)))
+  begin-stores = rw e (ap (λ (x : List ℕ). headerStore x ∷ []) (laid-first out (headerBytes emptyHeader) 64 (sym (length-header emptyHeader))
+      (rw length-header begin-room)))
 
 -- what is asked of an adding apart from its turn and its room
 pub record Takes (w : Writer) (a : Adding) : Type 0 where

@@ -74,7 +74,8 @@ module _ (xs : List Adding) (t : Taken begunWriter xs) (stored : List ℕ) (some
 
     head-here : headAt (finishedFile (map blockFor xs) stored) (endFrom 64 (map blockFor before)) ≡ headOf (length (map blockFor before)) (blockFor a)
     head-here =
-        head-finished (map blockFor xs) (blocks-valid xs t) (blocks-few xs t) stored some fits (map blockFor before) (blockFor a) (map blockFor after-it) split-blocks
+        head-finished (map blockFor xs) (blocks-valid xs t) (blocks-few xs t) stored some fits (map blockFor before) (blockFor a)
+        (map blockFor after-it) split-blocks
 
     start-here : headAt (finishedFile (map blockFor xs) stored) (endFrom 64 (map blockFor before)) .start ≡ a .start
     unfolding headOf blockFor

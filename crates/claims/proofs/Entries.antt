@@ -184,7 +184,8 @@ module _ (w : Writer) (p : List ℕ) (es : List Entry) (g : Opened w p es) (t : 
 
       go : Dec (1 ≤ w .pending .plain) → x .time ≡ startFor w t .0
       go (yes h) =
-          first-stays es (entryIn t text fs) x rest (w .pending .start .0) (some-read (take (w .pending .plain) p) (w .pending .start .0) (w .names) es (g .reads h)) (g .start) q
+          first-stays es (entryIn t text fs) x rest (w .pending .start .0) (some-read (take (w .pending .plain) p) (w .pending .start .0) (w .names) es
+          (g .reads h)) (g .start) q
           ∙ ap (λ (y : Epoch). y .0) (start-open w h t)
       go (no h) = alone (g .shut (omega arith)) (ap (λ (y : Epoch). y .0) (start-new w (omega arith) t))
 

@@ -128,7 +128,8 @@ unfolding namesBytes
 names-more i [] x = rw (add-zero, append-nil)
 names-more i (n ∷ ns) x =
     let e : i + suc (length ns) ≡ suc i + length ns = omega arith in
-    rw e (ap (λ (l : List ℕ). nameBytes i n ++ l) (names-more (suc i) ns x) ∙ sym (append-assoc (nameBytes i n) (namesBytes (suc i) ns) (nameBytes (suc i + length ns) x)))
+    rw e (ap (λ (l : List ℕ). nameBytes i n ++ l) (names-more (suc i) ns x)
+    ∙ sym (append-assoc (nameBytes i n) (namesBytes (suc i) ns) (nameBytes (suc i + length ns) x)))
 
 -- ---- bytes that have them behind a count
 

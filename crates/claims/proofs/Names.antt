@@ -237,7 +237,12 @@ module _ (w : Writer) (d : List ℕ) (ns : List (List ℕ)) (g : Holding w d ns)
           let k = g .count in
           record {
             count = omega (arith, length-append ns (n ∷ []));
-            size = rw (names-more 0 ns n) (omega (arith, g .size, length-append (namesBytes 0 ns) (nameBytes (0 + length ns) n), length-name (0 + length ns) n));
+            size = rw (names-more 0 ns n) (omega (
+              arith,
+              g .size,
+              length-append (namesBytes 0 ns) (nameBytes (0 + length ns) n),
+              length-name (0 + length ns) n,
+            ));
             whole = λ s. bytes-after;
             right = right-more ns n (g .right) (omega (arith, new .few)) (new .short) (new .utf8) (not-held miss);
             new = λ e. absurd (begun-not-new (w .turn) b e);
@@ -259,8 +264,11 @@ module _ (w : Writer) (d : List ℕ) (ns : List (List ℕ)) (g : Holding w d ns)
   name-numbers (numbered i) e q = let r = held-number w d ns g n i e in (omega (arith, r .1, g .count), r .0)
   name-numbers missing e q =
       let m = more-held w d ns g n e (new-facts w n d q) (turn-begun w b) in
-      let l : length ns < length (ns ++ (n ∷ [])) = omega (arith, length-append ns (n ∷ [])) in
-      (omega arith, ap (nameOf (appended w d n)) (g .count) ∙ each-held (withName w (length n)) (appended w d n) (ns ++ (n ∷ [])) m (length ns) l ∙ getD-append-seam ns n [] [])
+      let l : length ns < length (ns ++ (n ∷ [])) = omega (arith, length-append ns (n ∷ [])) in (
+        omega arith,
+        ap (nameOf (appended w d n)) (g .count) ∙ each-held (withName w (length n)) (appended w d n) (ns ++ (n ∷ [])) m (length ns) l
+            ∙ getD-append-seam ns n [] [],
+      )
 
 -- a name that is held is found by its number
 old-number : (w : Writer) (d : List ℕ) (ns : List (List ℕ)) (g : Holding w d ns) (i : ℕ) → i < length ns → (f : Found) → heldAs w d (getD ns i []) ≡ f

@@ -96,7 +96,8 @@ module _ (xs : List Adding) (w : Writer) (t : List ℕ) (b : Between xs w t) whe
       let split : t ≡ tableBytes rows ++ drop (length xs * stride) t =
       sym (take-append-drop (length xs * stride) t) ∙ ap (λ (l : List ℕ). l ++ drop (length xs * stride) t) (b .rows) in
       ap (rowsOf (w .blocks)) split
-      ∙ rows-back (w .blocks) rows (drop (length xs * stride) t) n (rows-fit 0 64 0 bs (taken-valid begunWriter xs (b .taken)) (omega (arith, few)) (omega (arith, few)))
+      ∙ rows-back (w .blocks) rows (drop (length xs * stride) t) n (rows-fit 0 64 0 bs (taken-valid begunWriter xs (b .taken)) (omega (arith, few))
+      (omega (arith, few)))
 
   -- the last four stores of a closing that is accepted
   pub closing-is : (plain stored out : List ℕ) → firstBroken (closeRules w t plain stored (length out)) ≡ sound

@@ -304,7 +304,8 @@ row-start : (n at : ℕ) (a : Adding) → rowFor n at (blockFor a) .start ≡ a 
 unfolding rowFor blockFor
 row-start n at a = refl
 
-module _ (cs : List Call) (f plain stored : List ℕ) (two : Finished f (addings newWriter cs) plain stored) (built : HoldsNames (behind newWriting cs) (namesHeld cs))
+module _ (cs : List Call) (f plain stored : List ℕ) (two : Finished f (addings newWriter cs) plain stored)
+    (built : HoldsNames (behind newWriting cs) (namesHeld cs))
     (is-built : plain ≡ builtNames (behind newWriting cs)) (some : 1 ≤ length (namesHeld cs))
     (pairs : Pairs (addings newWriter cs) (logOf cs) (namesHeld cs)) where
   abbrev fin : List (List ℕ)

@@ -70,9 +70,12 @@ bytes (b ∷ s) t (suc k) = bytes s (and-yes (ltb b 256) (below s) t .1) k
 
 pub worked : Worked
 unfolding firstBroken holds numberOf rules.placeOf ruled le fromLe leAt splice same bitStep steps byteStep crcFrom crc32 within tails sequences followers
-    utf8From utf8Of above decodeIn decode encodeIn encode spelled headerFields headerBytes headerOf blockHeaderFields blockHeaderBytes blockHeaderOf indexRowFields
-    indexRowBytes indexRowOf footerFields footerBytes headerRules sinceOf withinSpan belongsTo rows.rowBytes rows.rowOf rows.rowAt rows.roomRules rows.numberedFrom rowsOf tableBytes firstTime lastFrom headOf blockBytes rowFor
-    dictionaryBytes rowsBytes indexBytes tailBytes closedHeader closingBytes storedAt endAt endAlong headRules sumRule blocks.blockRules blocks.blockRow scanFrom
+    utf8From utf8Of above decodeIn decode encodeIn encode spelled headerFields headerBytes headerOf blockHeaderFields blockHeaderBytes blockHeaderOf
+    indexRowFields
+    indexRowBytes indexRowOf footerFields footerBytes headerRules sinceOf withinSpan belongsTo rows.rowBytes rows.rowOf rows.rowAt rows.roomRules
+    rows.numberedFrom rowsOf tableBytes firstTime lastFrom headOf blockBytes rowFor
+    dictionaryBytes rowsBytes indexBytes tailBytes closedHeader closingBytes storedAt endAt endAlong headRules sumRule blocks.blockRules blocks.blockRow
+    scanFrom
     scanOf rightLength rightBytes deltaRules readDelta countRules readCount idIn kindIn lengthIn bytesIn sizeIn cursor.fieldRules readField asDelta deltaAt
     asField fieldAt valueAt valIn readFields entries.orderRules readEntry entriesFrom entriesOf lastTime packField packFields fieldIn fieldsIn fieldSize
     fieldsSize entrySize entryBytes partRight textRules packing.fieldRules packing.roomRules sizedRules packRules recordsIn valueFor recordAt recordsFrom

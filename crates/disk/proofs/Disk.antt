@@ -217,7 +217,8 @@ module _ (cut : ℕ) (xs : List Adding) (ss : List Store) where
   in-standing z = ap (λ (q : ℕ). standing (0 + q) cut (blockStores 0 xs ++ ss)) (length-header emptyHeader) ∙ standing-blocks 64 cut 0 xs ss z
 
   disk-opened : 64 ≤ cut
-      → disk cut [] (openStores xs ++ ss) ≡ disk (cut - 64 - length (blocksBytes 0 (map blockFor xs))) (first ++ take (cut - 64) (blocksBytes 0 (map blockFor xs))) ss
+      → disk cut [] (openStores xs ++ ss) ≡ disk (cut - 64 - length (blocksBytes 0 (map blockFor xs)))
+      (first ++ take (cut - 64) (blocksBytes 0 (map blockFor xs))) ss
   unfolding openStores
   disk-opened h = disk-first cut (blockStores 0 xs ++ ss) h ∙ disk-blocks (cut - 64) 0 first xs ss
 
@@ -281,7 +282,8 @@ module _ (cut : ℕ) (xs : List Adding) (h : 64 ≤ cut) where
           blocks = in-blocks cut xs ss (closing-addings D cut D rows d) ∙ full-all 64 cut 0 bs (omega arith);
           stands = in-standing cut xs ss (λ q. closing-standing q cut D rows d) ∙ part-none 64 cut 0 bs (omega arith);
           dictionaries = in-dictionaries cut xs ss ∙ closing-dictionaries D cut D rows d
-              ∙ ap (λ (t : Bool). cond t (d ∷ []) []) (leb-same (D + 64 + (4 + length d)) cut (4 + length d) (cut - (D + 64)) (λ x. omega arith) (λ x. omega arith));
+              ∙ ap (λ (t : Bool). cond t (d ∷ []) []) (leb-same (D + 64 + (4 + length d)) cut (4 + length d) (cut - (D + 64)) (λ x. omega arith)
+              (λ x. omega arith));
         }
 
 -- every cut of the stores of a writer that began

@@ -276,7 +276,8 @@ module _ (bs : List Block) (d : List ℕ) (f : List ℕ) (l : Laid bs d f) where
     frame-laid = rw (l .header, size-laid, length-rows-from 0 64 bs)
 
 -- no rule is broken
-module _ (bs : List Block) (v : Valid 0 bs) (few : length bs ≤ 4096) (d : List ℕ) (some : 1 ≤ length d) (fits : length d < 256 ^ 4) (f : List ℕ) (l : Laid bs d f) where
+module _ (bs : List Block) (v : Valid 0 bs) (few : length bs ≤ 4096) (d : List ℕ) (some : 1 ≤ length d) (fits : length d < 256 ^ 4) (f : List ℕ)
+    (l : Laid bs d f) where
   footer-laid : firstBroken (footerRules f (length f - 24) (indexOf bs d)) ≡ sound
   footer-laid =
       let small : indexOf bs d < 256 ^ 8 = omega (arith, end-within 64 0 bs v, end-from 64 0 bs) in
@@ -297,7 +298,8 @@ module _ (bs : List Block) (v : Valid 0 bs) (few : length bs ≤ 4096) (d : List
       let i = indexOf bs d in
       rw (frame-laid bs d f l fits)
       (then-sound (headerRules f) _ (l .header-sound)
-      ∙ then-sound (placeRules (endOf bs) (length bs) (length f)) _ (places-sound (endOf bs) (length bs) (length f) (omega arith) (omega arith) (omega arith) few)
+      ∙ then-sound (placeRules (endOf bs) (length bs) (length f)) _
+      (places-sound (endOf bs) (length bs) (length f) (omega arith) (omega arith) (omega arith) few)
       ∙ then-sound (dictionaryRules f (endOf bs)) _ (dictionary-sound f (endOf bs) (omega arith) (omega arith) (omega arith))
       ∙ then-sound (lengthRules i (length bs) (length f)) _ (length-agrees i (length bs) (length f) (omega arith))
       ∙ then-sound (indexRules f i (length bs)) _ index-laid
@@ -401,5 +403,6 @@ module _ (bs : List Block) (v : Valid 0 bs) (few : length bs ≤ 4096) (d : List
     row-finished table room =
         let e = ap length split in
         let i : length before < length bs = omega (arith, length-append before (b ∷ after)) in
-        rw (opens table room .leaves) (row-tabled (tableOf bs) table (length bs) (length before) (length-rows-from 0 64 bs) i room (rows-fit 0 64 0 bs v (omega arith) (omega arith)))
+        rw (opens table room .leaves) (row-tabled (tableOf bs) table (length bs) (length before) (length-rows-from 0 64 bs) i room
+        (rows-fit 0 64 0 bs v (omega arith) (omega arith)))
         ∙ ap (λ (x : List Block). given (getD (tableOf x) (length before) emptyRow)) split ∙ ap given (rw zero-add at (row-in 0 64 before b after))

@@ -121,7 +121,11 @@ module _ (bs : List Block) (v : Valid 0 bs) (few : length bs ≤ 4096) (r : List
   closed-limit = ap (λ (d : ℕ). limitOf d (length (closedFile bs r))) closed-offset ∙ limit-offset (endOf bs) (length (closedFile bs r)) (λ e. omega arith)
 
   pub length-closed : length (closedFile bs r) ≡ endOf bs + length r
-  length-closed = omega (arith, length-file (closedHeader (endOf bs) (tableOf bs)) (closed-fits bs v few) (blocksBytes 0 bs ++ r), length-append (blocksBytes 0 bs) r)
+  length-closed = omega (
+    arith,
+    length-file (closedHeader (endOf bs) (tableOf bs)) (closed-fits bs v few) (blocksBytes 0 bs ++ r),
+    length-append (blocksBytes 0 bs) r,
+  )
 
   pub behind-header : drop 64 (closedFile bs r) ≡ blocksBytes 0 bs ++ r
   behind-header = drop-at (headerBytes (closedHeader (endOf bs) (tableOf bs))) (blocksBytes 0 bs ++ r) 64 (length-header (closedHeader (endOf bs) (tableOf bs)))
@@ -137,7 +141,8 @@ module _ (bs : List Block) (v : Valid 0 bs) (few : length bs ≤ 4096) (r : List
       let l = length-closed in
       accepted (closedHeader (endOf bs) (tableOf bs)) (closed-fits bs v few) (blocksBytes 0 bs ++ r) (omega arith) (omega arith)
 
-  pub closed-report : reportOf (closedFile bs r) ≡ record { rows = tableOf bs; end = endOf bs; stop = sound; whole = wholeDictionary (closedFile bs r) (endOf bs) }
+  pub closed-report : reportOf (closedFile bs r)
+      ≡ record { rows = tableOf bs; end = endOf bs; stop = sound; whole = wholeDictionary (closedFile bs r) (endOf bs) }
   unfolding reportOf
   closed-report = rw (closed-limit, closed-offset, scan-clean (closedFile bs r) (endOf bs) bs r behind-header refl few v)
 
@@ -234,7 +239,8 @@ module _ (xs : List Adding) (v : Valid 0 (map blockFor xs)) (few : length (map b
   recovers {ss} b cut h = recovers-view ss cut (view xs b cut h)
 
 -- so the call, with a table that has room for the rows, gives the report and puts the rows in front of the table
-module _ (f : List ℕ) (bs : List Block) (part : ℕ) (ds : List (List ℕ)) (r : Reports f bs part ds) (table : List ℕ) (room : length (tableBytes (tableOf bs)) ≤ length table) where
+module _ (f : List ℕ) (bs : List Block) (part : ℕ) (ds : List (List ℕ)) (r : Reports f bs part ds) (table : List ℕ)
+    (room : length (tableBytes (tableOf bs)) ≤ length table) where
   rules-sound : firstBroken (callRules f (length table)) ≡ sound
   unfolding callRules roomRules
   rules-sound =

@@ -39,7 +39,8 @@ fits n earliest b small g =
       checksum = omega (arith, crc32-small (b .stored) (g .stored-bytes));
     }
 
-module _ (f : List ℕ) (at n earliest : ℕ) (b : Block) (t : List ℕ) (here : drop at f ≡ blockHeaderBytes (headOf n b) ++ t) (small : n < 256 ^ 4) (g : Good earliest b) where
+module _ (f : List ℕ) (at n earliest : ℕ) (b : Block) (t : List ℕ) (here : drop at f ≡ blockHeaderBytes (headOf n b) ++ t) (small : n < 256 ^ 4)
+    (g : Good earliest b) where
   head-read : headAt f at ≡ headOf n b
   head-read = rw here (block-header-back (headOf n b) (fits n earliest b small g) t)
 

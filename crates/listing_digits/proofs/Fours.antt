@@ -51,7 +51,8 @@ le-four a b c d w ha hb hc hd e =
     rw (p, x, q, y, r, z, s)
 
 -- the bytes of the sum
-pub four-bytes : (r w t : ℕ) → r < 10000 → t ≡ r / 100 / 10 + r % 100 / 10 * 0x10000 → w ≡ 0x30303030 + (r / 100 + r % 100 * 0x10000) * 0x100 - t * 2559 → le 4 w ≡ fourOf r
+pub four-bytes : (r w t : ℕ) → r < 10000 → t ≡ r / 100 / 10 + r % 100 / 10 * 0x10000 → w ≡ 0x30303030 + (r / 100 + r % 100 * 0x10000) * 0x100 - t * 2559
+    → le 4 w ≡ fourOf r
 unfolding fourOf pairOf digit
 four-bytes r w t h g e =
     let a = r / 100 / 10 in

@@ -32,7 +32,8 @@ form zero (b ∷ s) v n e = go (leb b 1) refl e
 form (suc k) [] v n e = let z : _≡_ {A = ℕ} 0 1 = cc in absurd (omega arith)
 form (suc k) (b ∷ s) v n e = go (ltb b 128) refl (decodeIn k s) (form k s) e
   where
-    go : (t : Bool) → ltb b 128 ≡ t → (d : Decoding) → ((w m : ℕ) → d ≡ value w m → Form k s w m) → cond t (value b 1) (above (b - 128) d) ≡ value v n → Form (suc k) (b ∷ s) v n
+    go : (t : Bool) → ltb b 128 ≡ t → (d : Decoding) → ((w m : ℕ) → d ≡ value w m → Form k s w m) → cond t (value b 1) (above (b - 128) d) ≡ value v n
+        → Form (suc k) (b ∷ s) v n
     go true q d ih e = let x : b ≡ v = cc in let y : 1 ≡ n = cc in rw (← x, ← y) (last (ltb-true b 128 q))
     go false q (value w m) ih e = let x : b - 128 + 128 * w ≡ v = cc in let y : suc m ≡ n = cc in rw (← x, ← y) (more (ltb-false b 128 q) (ih w m refl))
     go false q cut ih e = let z : _≡_ {A = ℕ} 0 1 = cc in absurd (omega arith)

@@ -65,7 +65,12 @@ over low scale p malformed = Malformed
 over-above : (low scale p g : ℕ) (d : Decoding) → over low scale p (above g d) ≡ over (low + g * scale) (scale * 128) (p + 1) d
 unfolding over above
 over-above low scale p g (value v n) =
-    let e : low + (g + 128 * v) * scale ≡ low + g * scale + v * (scale * 128) = omega (arith, add-mul g (128 * v) scale, mul-assoc 128 v scale, mul-assoc v scale 128) in
+    let e : low + (g + 128 * v) * scale ≡ low + g * scale + v * (scale * 128) = omega (
+      arith,
+      add-mul g (128 * v) scale,
+      mul-assoc 128 v scale,
+      mul-assoc v scale 128,
+    ) in
     let f : p + suc n ≡ p + 1 + n = omega arith in
     rw (e, f)
 over-above low scale p g cut = refl
@@ -111,8 +116,15 @@ turn-first s at low l e h =
 module _ {s : List ℕ} {at low scale left p : ℕ} (t : Turn s at low scale left p) where
   -- a group and the tenth byte, times the scale, fit 64 bits
   pub turn-group : (g : ℕ) → 0 < left → g < 128 → (g * scale ≤ 127 * scale) × (scale * 128 ≤ 2 ^ 63)
-  turn-group g q h =
-      (mul-le-mul-right scale (omega arith), omega (arith, scale-next scale left q (t .scaled), mul-le-mul-left (scale * 128) (one-le-pow (left - 1) 128 (lit< tt)), mul-one (scale * 128)))
+  turn-group g q h = (
+    mul-le-mul-right scale (omega arith),
+    omega (
+      arith,
+      scale-next scale left q (t .scaled),
+      mul-le-mul-left (scale * 128) (one-le-pow (left - 1) 128 (lit< tt)),
+      mul-one (scale * 128),
+    ),
+  )
 
   pub turn-high : (b : ℕ) → left ≤ 0 → b ≤ 1 → (b * scale ≤ 1 * scale) × (scale ≡ 2 ^ 63)
   turn-high b q h = (mul-le-mul-right scale h, scale-tenth scale left q (t .scaled))

@@ -84,7 +84,8 @@ unfolding firstBroken
 sound-held [] e = tt
 sound-held (r ∷ rs) e = go (holds r) refl (sound-held rs) e
   where
-    go : (t : Bool) → holds r ≡ t → (firstBroken rs ≡ sound → Held rs) → cond t (firstBroken rs) (broken (numberOf r) (placeOf r)) ≡ sound → (holds r ≡ true) × Held rs
+    go : (t : Bool) → holds r ≡ t → (firstBroken rs ≡ sound → Held rs) → cond t (firstBroken rs) (broken (numberOf r) (placeOf r)) ≡ sound
+        → (holds r ≡ true) × Held rs
     go true q ih f = (q, ih f)
     go false q ih f = let z : _≡_ {A = ℕ} 0 1 = cc in absurd (omega arith)
 

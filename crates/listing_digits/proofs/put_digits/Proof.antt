@@ -49,4 +49,5 @@ returns c = let p = c .before .before in p .put-short .ensures ∙ p .before .be
 pub put-digits-spec : {M : Type 1} → statement M
 put-digits-spec =
     tie.close
-    (tie.spec Inv-loop μ-loop loop-holds sub-put-four (λ c. search needs) put-four-requires sub-i (λ c. search needs) loop-again (λ c. search needs) put-short-requires same-length returns)
+    (tie.spec Inv-loop μ-loop loop-holds sub-put-four (λ c. search needs) put-four-requires sub-i (λ c. search needs) loop-again
+    (λ c. search needs) put-short-requires same-length returns)

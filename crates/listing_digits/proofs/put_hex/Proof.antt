@@ -33,7 +33,8 @@ loop-again c =
       search needs,
       (
         hex-turn (a .out .now) (a .at) (a .width) (a .n) (l .loop .i) (l .loop .x) (v .1 .0) h,
-        hex-put (a .out .now) (a .at) (a .width) (a .n) (l .loop .i) (l .loop .x) (v .1 .0) _ _ _ h (v .1 .1) (p .before .hex-digit .ensures) (p .put-one .ensures),
+        hex-put (a .out .now) (a .at) (a .width) (a .n) (l .loop .i) (l .loop .x) (v .1 .0) _ _ _ h (v .1 .1) (p .before .hex-digit .ensures)
+            (p .put-one .ensures),
       ),
     )
 

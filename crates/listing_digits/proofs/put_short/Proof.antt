@@ -44,7 +44,10 @@ put-pair-requires-2 c κs =
     (omega arith, simp length-set (omega (arith, ap length e, length-pair (a .n % 100))))
 
 same-length-3 : tie.Need-same-length-3
-same-length-3 c = let a = c .before .before .before .before .before .before .before .before .args in omega (arith, length-set (a .out .now) (a .at) (0x30 + a .n / 100))
+same-length-3 c = let a = c .before .before .before .before .before .before .before .before .args in omega (
+  arith,
+  length-set (a .out .now) (a .at) (0x30 + a .n / 100),
+)
 
 returns-3 : tie.Need-returns-3
 unfolding digit
@@ -71,4 +74,6 @@ returns-4 c =
 pub put-short-spec : {M : Type 1} → statement M
 put-short-spec =
     tie.close
-    (tie.spec (λ c. search needs) (λ c. search needs) slice-write-out (λ c. search needs) returns put-pair-requires (λ c. search needs) returns-2 (λ c. search needs) (λ c. search needs) slice-write-out-2 (λ c. search needs) put-pair-requires-2 same-length-3 returns-3 put-four-requires (λ c. search needs) returns-4)
+    (tie.spec (λ c. search needs) (λ c. search needs) slice-write-out (λ c. search needs) returns put-pair-requires (λ c. search needs) returns-2
+    (λ c. search needs) (λ c. search needs) slice-write-out-2 (λ c. search needs) put-pair-requires-2 same-length-3 returns-3 put-four-requires
+    (λ c. search needs) returns-4)

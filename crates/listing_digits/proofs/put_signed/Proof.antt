@@ -19,7 +19,8 @@ returns c =
     let s = t .before .before in
     let b = below (s .args .z) (s .fits .z) (t .if1 .taken) in
     let a = s .args in
-    p .put-negative .ensures ∙ ap (λ (n : ℕ). splice (a .out .now) (a .at) (0x2D ∷ decimalOf n)) (m .magnitude .ensures ∙ ap magnitudeOf (toZ-ofZ w64 (a .z) (s .fits .z)))
+    p .put-negative .ensures ∙ ap (λ (n : ℕ). splice (a .out .now) (a .at) (0x2D ∷ decimalOf n)) (m .magnitude .ensures
+    ∙ ap magnitudeOf (toZ-ofZ w64 (a .z) (s .fits .z)))
     ∙ ap (splice (a .out .now) (a .at)) (sym (b .shown))
 
 returns-2 : tie.Need-returns-2
@@ -30,7 +31,8 @@ returns-2 c =
     let s = t .before .before in
     let b = above (s .args .z) (s .fits .z) (t .if1 .left) in
     let a = s .args in
-    p .put-decimal .ensures ∙ ap (λ (n : ℕ). splice (a .out .now) (a .at) (decimalOf n)) (m .magnitude2 .ensures ∙ ap magnitudeOf (toZ-ofZ w64 (a .z) (s .fits .z)))
+    p .put-decimal .ensures ∙ ap (λ (n : ℕ). splice (a .out .now) (a .at) (decimalOf n)) (m .magnitude2 .ensures
+    ∙ ap magnitudeOf (toZ-ofZ w64 (a .z) (s .fits .z)))
     ∙ ap (splice (a .out .now) (a .at)) (sym (b .shown))
 
 pub put-signed-spec : {M : Type 1} → statement M

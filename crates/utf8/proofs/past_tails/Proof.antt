@@ -59,4 +59,5 @@ returns-3 c =
 pub past-tails-spec : {M : Type 1} → statement M
 past-tails-spec =
     tie.close
-    (tie.spec Inv-loop μ-loop (λ c. search needs) loop-holds (λ c κs. search needs) returns returns-2 add-at-2 (λ c. search needs) (λ c. search needs) loop-again returns-3)
+    (tie.spec Inv-loop μ-loop (λ c. search needs) loop-holds (λ c κs. search needs) returns returns-2 add-at-2 (λ c. search needs)
+    (λ c. search needs) loop-again returns-3)

@@ -28,10 +28,12 @@ returns-2 : tie.Need-returns-2 Inv-loop μ-loop
 returns-2 c = turn-last (c .before .before .before .before .before .loop .inv) _ (search needs) (search needs) (search needs) (search needs)
 
 mul-value : tie.Need-mul-value Inv-loop μ-loop
-mul-value c = let f = turn-group (c .before .before .before .before .before .loop .inv) (c .before .wide .result - 128) (search needs) (search needs) in omega arith
+mul-value c = let f = turn-group (c .before .before .before .before .before .loop .inv) (c .before .wide .result - 128) (search needs)
+    (search needs) in omega arith
 
 add-value : tie.Need-add-value Inv-loop μ-loop
-add-value c = let f = turn-group (c .before .before .before .before .before .loop .inv) (c .before .wide .result - 128) (search needs) (search needs) in omega arith
+add-value c = let f = turn-group (c .before .before .before .before .before .loop .inv) (c .before .wide .result - 128) (search needs)
+    (search needs) in omega arith
 
 mul-scale : tie.Need-mul-scale Inv-loop μ-loop
 mul-scale c = let f = turn-group (c .before .before .before .before .before .loop .inv) 0 (search needs) (search needs) in omega arith
@@ -43,7 +45,8 @@ returns-3 : tie.Need-returns-3 Inv-loop μ-loop
 returns-3 c = turn-end (c .before .before .loop .inv) (search needs)
 
 returns-4 : tie.Need-returns-4 Inv-loop μ-loop
-returns-4 c = turn-long (c .before .before .before .before .before .loop .inv) (c .before .wide2 .result) (search needs) (search needs) (search needs) (search needs)
+returns-4 c = turn-long (c .before .before .before .before .before .loop .inv) (c .before .wide2 .result) (search needs) (search needs) (search needs)
+    (search needs)
 
 mul-t22 : tie.Need-mul-t22 Inv-loop μ-loop
 mul-t22 c = let f = turn-high (c .before .before .before .before .before .loop .inv) (c .before .wide2 .result) (search needs) (search needs) in omega arith

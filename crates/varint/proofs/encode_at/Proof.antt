@@ -19,7 +19,12 @@ returns : tie.Need-returns Inv-loop μ-loop
 returns c = write-past _ _ _ _ (c .before .before .loop .inv .2) (search needs)
 
 loop-again : tie.Need-loop-again Inv-loop μ-loop
-loop-again c = (search needs, search needs, write-more _ _ _ _ (c .before .before .before .loop .inv .2) (c .narrow .result) (search needs) (search needs) (search needs))
+loop-again c = (
+  search needs,
+  search needs,
+  write-more _ _ _ _ (c .before .before .before .loop .inv .2) (c .narrow .result) (search needs) (search needs)
+      (search needs),
+)
 
 returns-2 : tie.Need-returns-2 Inv-loop μ-loop
 returns-2 c = write-last _ _ _ _ (c .before .before .before .loop .inv .2) (c .narrow2 .result) (search needs) (search needs)
