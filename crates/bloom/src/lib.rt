@@ -1,4 +1,6 @@
 // A Bloom filter of byte strings: each that is added has its mark there, so one without its mark wasn't added.
+#![tactic(auto)]
+
 ghost use Rattle.std.specs.Prelude.{◌≡◌, ◌<◌};
 ghost use Rattle.bloom.specs.Filter.{digest_of, slot_of, mark_of, added, marked, cleared};
 

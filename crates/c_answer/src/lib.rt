@@ -1,4 +1,6 @@
 // What the calls of the C edge answer: numbers alone, by value.
+#![tactic(auto)]
+
 ghost use Rattle.std.specs.Prelude.{◌≡◌};
 ghost use Rattle.verdict.specs.Rules.{given, refused};
 ghost use Rattle.c_answer.specs.Answer.{answered, flag_of};

@@ -1,4 +1,6 @@
 // The calls on one block, its header and its plain bytes, for programs in C (include/hplog.h).
+#![tactic(auto)]
+
 ghost use Rattle.std.specs.Prelude.{◌≡◌, ◌+◌, ltb};
 ghost use Rattle.verdict.specs.Rules.{given};
 ghost use Rattle.c_block.specs.Block.{c_block_of};

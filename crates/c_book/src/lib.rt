@@ -1,4 +1,6 @@
 // The calls on plain books for programs in C (include/hplog.h).
+#![tactic(auto)]
+
 ghost use Rattle.std.specs.Prelude.{◌≡◌};
 ghost use Rattle.verdict.specs.Rules.{given};
 ghost use Rattle.c_book.specs.Books.{span_answer, c_book_of, c_parts_of, c_part_of};

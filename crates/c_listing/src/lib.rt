@@ -1,4 +1,6 @@
 // The listing for programs in C, piece by piece (include/hplog.h).
+#![tactic(auto)]
+
 ghost use Rattle.c_listing.specs.Answers.{Started, StartedRange, Went};
 
 use c_answer::Answer;

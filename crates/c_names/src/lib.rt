@@ -1,4 +1,6 @@
 // The calls on plain dictionaries for programs in C (include/hplog.h).
+#![tactic(auto)]
+
 ghost use Rattle.std.specs.Prelude.{◌≡◌};
 ghost use Rattle.verdict.specs.Rules.{given};
 ghost use Rattle.c_names.specs.Names.{span_answer, c_names_of, c_name_of, c_name_at_of, c_number_of};

@@ -1,4 +1,6 @@
 // Opening a file for programs in C, on numbers and lent bytes. A length comes after each pointer (include/hplog.h).
+#![tactic(auto)]
+
 ghost use Rattle.std.specs.Prelude.{◌≡◌, false, [], ◌∷◌, ◌++◌, length};
 ghost use Rattle.verdict.specs.Rules.{flag, first_broken, settle};
 ghost use Rattle.wire.specs.Wire.{splice};

@@ -1,4 +1,6 @@
 // The steps that read a block's plain bytes for programs in C (include/hplog.h).
+#![tactic(auto)]
+
 ghost use Rattle.std.specs.Prelude.{◌≡◌};
 ghost use Rattle.cursor.specs.Answers.{delta_at, count_at, field_at};
 ghost use Rattle.cursor.specs.declared.FieldStep.TheVariants as field;

@@ -1,5 +1,7 @@
 // The choice of blocks and the label for programs in C, on numbers and lent bytes. A length comes after each pointer
 // (include/hplog.h).
+#![tactic(auto)]
+
 ghost use Rattle.std.specs.Prelude.{◌≡◌, [], ◌∷◌, ◌+◌, ◌*◌, ◌≤◌, length};
 ghost use Rattle.wire.specs.Wire.{splice};
 ghost use Rattle.label.specs.Label.{label_out};

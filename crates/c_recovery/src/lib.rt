@@ -1,5 +1,7 @@
 // Recovery and repair of a file for programs in C, on numbers and lent bytes. A length comes after each pointer
 // (include/hplog.h).
+#![tactic(auto)]
+
 ghost use Rattle.std.specs.Prelude.{◌≡◌, false, [], ◌∷◌, ◌++◌, length};
 ghost use Rattle.verdict.specs.Rules.{flag, first_broken, settle};
 ghost use Rattle.verdict.specs.Answer.{verdict_of};

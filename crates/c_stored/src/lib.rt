@@ -1,4 +1,6 @@
 // The calls that say where a file's stored bytes stand, for programs in C (include/hplog.h).
+#![tactic(auto)]
+
 ghost use Rattle.std.specs.Prelude.{◌≡◌};
 ghost use Rattle.verdict.specs.Rules.{given};
 ghost use Rattle.c_stored.specs.Stored.{span_answer, c_stored_of, c_dictionary_of};

@@ -1,4 +1,6 @@
 // The writer for programs in C, its state by value (include/hplog.h).
+#![tactic(auto)]
+
 ghost use Rattle.std.specs.Prelude.{◌≡◌, length};
 ghost use Rattle.packing.specs.Table.{records_in, fields_of};
 ghost use Rattle.writer.specs.State.{new_writer};

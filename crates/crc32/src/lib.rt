@@ -1,5 +1,7 @@
 // CRC-32 of ITU-T V.42, without tables: a long input is folded onto its last 4,032 bytes, through a ring of the last
 // 4,018 that were taken out.
+#![tactic(auto)]
+
 ghost use Rattle.std.specs.Prelude.{◌≡◌, ◌+◌, ◌-◌, ◌≤◌, min, length, drop};
 ghost use Rattle.crc32_fold.specs.Fold.{initial, folded, merged, reduced};
 ghost use Rattle.crc32.specs.Crc.{crc32};

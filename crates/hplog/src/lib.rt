@@ -2,6 +2,8 @@
 // lists the crates whose types it reaches beside this one.
 
 // A finished log: opening it, and the blocks that a range of times chooses.
+#![tactic(auto)]
+
 pub use frame::Frame;
 pub use parts::Epoch;
 pub use query::{Queried, count, query};

@@ -1,4 +1,6 @@
 // The panel label of a name. A refusal leaves the panel as it was.
+#![tactic(auto)]
+
 ghost use Rattle.std.specs.Prelude.{◌≡◌, ◌≤◌, ◌<◌, length};
 ghost use Rattle.wire.specs.Wire.{splice};
 ghost use Rattle.label.specs.Label.{padded, abridged, label_of, label_out};

@@ -1,4 +1,6 @@
 // Numbers and bytes as text. What lies past the end of the output isn't written.
+#![tactic(auto)]
+
 ghost use Rattle.std.specs.Prelude.{◌≡◌, [], ◌∷◌, ◌+◌, ◌≤◌, ◌<◌, length};
 ghost use Rattle.wire.specs.Wire.{le, splice};
 ghost use Rattle.listing_digits.specs.Digits.{decimal_of, magnitude_of, signed_of, hex_digit, hex_of, shown_in_text};

@@ -1,4 +1,6 @@
 // A state of the listing as a struct of numbers, as programs in C hold it.
+#![tactic(auto)]
+
 ghost use Rattle.std.specs.Prelude.{◌≡◌};
 ghost use Rattle.listing_numbers.specs.Listing.{place_in, state_in, listing_at, listing_off};
 

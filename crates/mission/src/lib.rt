@@ -1,5 +1,7 @@
 // The calls that write, open, step, look up, recover and repair, each under a promise in the claims' own words: where a
 // call's promise changes, these no longer hold.
+#![tactic(auto)]
+
 mod reading;
 mod recovering;
 mod writing;

@@ -1,4 +1,6 @@
 // An order of byte strings: the shorter one is less, and of two of one length the one that spells the smaller number.
+#![tactic(auto)]
+
 ghost use Rattle.std.specs.Prelude.{◌+◌, ◌≤◌, ◌≡◌, length};
 ghost use Rattle.wire.specs.Wire.{le_at};
 ghost use Rattle.order.specs.Value.{Compared, value_of};

@@ -6,6 +6,8 @@
 // these:
 //   file HEX, append HEX         nothing: the bytes are the file, or come behind it
 //   flips A B                    `glance` with the byte at each offset from A up to B one more, behind the offset
+#![tactic(auto)]
+
 use libc::STDIN_FILENO;
 
 // The first n bytes, with one of them one more while they are looked at.

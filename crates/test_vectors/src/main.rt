@@ -22,6 +22,8 @@
 //   slices  the same, over the rows as a slice of structs
 // It prints how many cases of each group agree, and before that each case that doesn't, with the answer that the
 // library gave.
+#![tactic(auto)]
+
 mod answers;
 mod groups;
 mod held;

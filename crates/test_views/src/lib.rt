@@ -12,6 +12,8 @@
 //   stored-at OFFSET SIZE        the stored bytes by a row that says so
 //   bytes                        the file's bytes, up to 2,048
 // A refusal is printed as refused, its number and its place.
+#![tactic(auto)]
+
 pub mod print;
 mod reading;
 

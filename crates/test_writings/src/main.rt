@@ -28,6 +28,8 @@
 //   append HEX, cut LENGTH       nothing: the bytes come behind the file, or it ends there
 //   change OFFSET HEX            nothing: the bytes are those of the file from there on
 // A refusal is printed as refused, its number and its place.
+#![tactic(auto)]
+
 mod answers;
 mod calls;
 mod commands;

@@ -1,5 +1,7 @@
 // UTF-8 by RFC 3629's table of byte sequences: one sequence after the other, with fast paths for runs of bytes below 80
 // hex and for runs of other characters.
+#![tactic(auto)]
+
 ghost use Rattle.std.specs.Prelude.{◌≡◌, false, ◌∷◌, ◌+◌, ◌≤◌, ◌<◌, length, get_or, drop};
 ghost use Rattle.utf8.specs.Utf8.{◌to◌, tails, utf8_of};
 ghost use Rattle.utf8.specs.Steps.{Low, Passed, Stepped, Followed, Fits, Fitting, Settled, Windows};

@@ -1,4 +1,6 @@
 // Varints in a slice. Every position is taken: past the end there is nothing to read, and nothing is written.
+#![tactic(auto)]
+
 ghost use Rattle.std.specs.Prelude.{◌≡◌, ◌+◌, ◌<◌, length, get_or};
 ghost use Rattle.wire.specs.Wire.{splice};
 ghost use Rattle.varint.specs.Varint.{encode};

@@ -1,4 +1,6 @@
 // What every call of the library answers with where it refuses.
+#![tactic(auto)]
+
 ghost use Rattle.std.specs.Prelude.{◌≡◌};
 ghost use Rattle.verdict.specs.Rules.{broken};
 ghost use Rattle.verdict.specs.Answer.{verdict_of};
