@@ -9,7 +9,7 @@ use verdict::Refusal;
 
 // The number is 0 where the call was accepted, and the count is then what the call says; on a refusal it is 0.
 #[repr(C)]
-#[derive(Drop)]
+#[derive(Clone, Copy)]
 pub struct Answer {
     pub number: u64,
     pub place: u64,

@@ -13,7 +13,7 @@ use verdict::{Checked, Refusal};
 
 // A block by its header: where that stands, and its fields.
 #[repr(C)]
-#[derive(Drop)]
+#[derive(Clone, Copy)]
 pub struct BlockAnswer {
     pub number: u64,
     pub place: u64,

@@ -10,7 +10,7 @@ use listing_places::{Range, State};
 use parts::Epoch;
 
 #[repr(C)]
-#[derive(Drop)]
+#[derive(Clone, Copy)]
 pub struct Listed {
     pub answer: Answer,
     pub next: Listing,

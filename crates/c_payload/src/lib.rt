@@ -11,7 +11,7 @@ use verdict::Refusal;
 
 // A number read, and where the next step begins.
 #[repr(C)]
-#[derive(Drop)]
+#[derive(Clone, Copy)]
 pub struct Step {
     pub number: u64,
     pub place: u64,
@@ -21,7 +21,7 @@ pub struct Step {
 
 // A field read: its value's bits, or where its text stands in the payload.
 #[repr(C)]
-#[derive(Drop)]
+#[derive(Clone, Copy)]
 pub struct FieldAnswer {
     pub number: u64,
     pub place: u64,

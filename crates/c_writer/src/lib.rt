@@ -22,7 +22,7 @@ use writer_names::Named;
 
 // A writer in numbers alone.
 #[repr(C)]
-#[derive(Drop)]
+#[derive(Clone, Copy)]
 pub struct State {
     pub length: u64,
     pub end: u64,
@@ -37,7 +37,7 @@ pub struct State {
 }
 
 #[repr(C)]
-#[derive(Drop)]
+#[derive(Clone, Copy)]
 pub struct Written {
     pub answer: Answer,
     pub next: State,

@@ -9,7 +9,7 @@ ghost use Rattle.label.specs.Inner.{Printable};
 
 use verdict::Refusal;
 
-#[derive(Drop)]
+#[derive(Clone, Copy)]
 pub enum Labelled {
     // whether the label is a shortened name
     Written(bool),

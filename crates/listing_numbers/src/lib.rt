@@ -11,7 +11,7 @@ use verdict::Refusal;
 // A state of the listing in numbers alone. A refusal's number stands in `fields` and its place in `from`, as do the
 // totals.
 #[repr(C)]
-#[derive(Drop)]
+#[derive(Clone, Copy)]
 pub struct Listing {
     pub at: usize,
     pub plain: usize,

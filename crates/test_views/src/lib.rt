@@ -21,7 +21,7 @@ ghost use Rattle.std.specs.Prelude.{◌≡◌, length};
 
 pub use reading::glance_at;
 
-#[derive(Drop)]
+#[derive(Clone, Copy)]
 enum Looking {
     Open,
     OpenIn,

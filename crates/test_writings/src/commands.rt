@@ -1,7 +1,7 @@
 // The commands by their names.
 
 // On the file's own bytes.
-#[derive(Drop)]
+#[derive(Clone, Copy)]
 pub enum Changing {
     Append,
     Cut,
@@ -9,7 +9,7 @@ pub enum Changing {
 }
 
 // The writer's calls that hand out no bytes.
-#[derive(Drop)]
+#[derive(Clone, Copy)]
 pub enum Entering {
     Name,
     LongName,
@@ -20,7 +20,7 @@ pub enum Entering {
 }
 
 // The writer's calls that store.
-#[derive(Drop)]
+#[derive(Clone, Copy)]
 pub enum Storing {
     Begin,
     Block,
@@ -28,7 +28,7 @@ pub enum Storing {
 }
 
 // Those that the file may be another after.
-#[derive(Drop)]
+#[derive(Clone, Copy)]
 pub enum Filing {
     Store(Storing),
     Blocks,
@@ -36,7 +36,7 @@ pub enum Filing {
     Change(Changing),
 }
 
-#[derive(Drop)]
+#[derive(Clone, Copy)]
 pub enum Command {
     Enter(Entering),
     File(Filing),

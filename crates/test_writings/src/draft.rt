@@ -9,7 +9,7 @@ use writer_entries::Entered;
 use writer_names::Named;
 
 // What is kept from line to line, beside the lent bytes: the writer, and the length of the file.
-#[derive(Drop)]
+#[derive(Clone, Copy)]
 pub struct Draft {
     pub writer: Writer,
     pub len: usize,
@@ -227,7 +227,7 @@ pub fn entry_text(
 }
 
 // What a block takes beside its bytes.
-#[derive(Drop)]
+#[derive(Clone, Copy)]
 pub struct Adding {
     pub rows: usize,
     pub room: usize,

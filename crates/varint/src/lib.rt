@@ -8,7 +8,7 @@ ghost use Rattle.varint.specs.Answer.{decoded_at};
 
 // What stands at a position: a value and the position behind it; bytes that end too early; more than ten bytes or 64
 // bits.
-#[derive(Drop)]
+#[derive(Clone, Copy)]
 pub enum Decoded {
     Value(u64, usize),
     Cut,

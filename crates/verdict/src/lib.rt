@@ -6,14 +6,14 @@ ghost use Rattle.verdict.specs.Rules.{broken};
 ghost use Rattle.verdict.specs.Answer.{verdict_of};
 
 // The paper's number, and the offset or the quantity that is at fault.
-#[derive(Drop)]
+#[derive(Clone, Copy)]
 pub struct Refusal {
     pub number: u8,
     pub place: u64,
 }
 
 // What a check of some rules finds: that all hold, or the first that doesn't.
-#[derive(Drop)]
+#[derive(Clone, Copy)]
 pub enum Checked {
     Sound,
     Broken(Refusal),

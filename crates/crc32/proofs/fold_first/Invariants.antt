@@ -1,0 +1,17 @@
+-- `crc32::fold_first` meets its contract. Assumes nothing.
+use mathlib.Core.Path.{◌≡◌}
+use Prim.Native.Nat.{◌+◌, ◌-◌, ◌≤◌}
+use lib.ListN.{length, drop}
+use Rattle.crc32_fold.specs.Fold.{folded}
+use Rattle.crc32.specs.Far.{far}
+use Rattle.crc32.specs.Inner.{from}
+use Rattle.crc32.proofs.fold_first.Given as goal
+
+-- what is left to take out, from the ring at k, gives what all gives from the start
+abbrev pub invariant-loop-k : goal.invariant-loop-k
+invariant-loop-k l =
+    (l.i ≤ l.k) × (l.k ≤ l.i + (1927 - l.i)) × (length l.ring ≡ 4018)
+    × (folded far (1927 - l.k) (from l.k l.ring) (drop (l.at + (l.k - l.i)) l.s) ≡ folded far (1927 - l.i) (from l.i l.initial.ring) (drop l.at l.s))
+
+abbrev pub decreases-loop-k : goal.decreases-loop-k
+decreases-loop-k l = 1927 - l.k
