@@ -20,8 +20,11 @@ slice_bounds-put_u32-end c = omega (arith, ap length (here (goal.at.slice_bounds
 pub returns-then-lists : goal.returns-then-lists
 returns-then-lists c =
     let a = c.args in
-    rw (here (goal.at.returns-then-lists c).Then-lists, numbers-one a.i) (search rules, part-back a.out.now a.at 4 _ _ (length-le 4 a.i)
-    (omega (arith, ap length (here (goal.at.returns-then-lists c).Then-lists))) c.put_u32.ensures)
+    rw (here (goal.at.returns-then-lists c).Then-lists, numbers-one a.i) (
+      search rules,
+      part-back a.out.now a.at 4 _ _ (length-le 4 a.i)
+          (omega (arith, ap length (here (goal.at.returns-then-lists c).Then-lists))) c.put_u32.ensures,
+    )
 
 pub returns : goal.returns
 returns c =
