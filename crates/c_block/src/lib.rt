@@ -38,8 +38,7 @@ fn is_cut(n: u64, at: u64) -> bool
     false
 }
 
-#[unsafe(no_mangle)]
-pub extern "C" fn hplog_check_block(log: &[u8], at: u64, plain: &[u8], names: u32) -> Answer
+pub fn hplog_check_block(log: &[u8], at: u64, plain: &[u8], names: u32) -> Answer
     ensures { result ≡ c_block_of log.now at plain.now names }
 {
     if is_cut(log.len() as u64, at) {
@@ -97,8 +96,7 @@ fn header_at(log: &[u8], at: u64) -> BlockAnswer
     header_there(log, at)
 }
 
-#[unsafe(no_mangle)]
-pub extern "C" fn hplog_block(log: &[u8], rows: &[u8], i: u64) -> BlockAnswer
+pub fn hplog_block(log: &[u8], rows: &[u8], i: u64) -> BlockAnswer
     ensures { result ≡ c_header_of log.now rows.now i }
 {
     let l = access::locate(rows, rows::room(rows) as u64, i);

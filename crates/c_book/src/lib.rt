@@ -18,8 +18,7 @@ fn found(p: Span) -> Answer
     }
 }
 
-#[unsafe(no_mangle)]
-pub extern "C" fn hplog_book(book: &[u8], blocks: u32) -> Answer
+pub fn hplog_book(book: &[u8], blocks: u32) -> Answer
     ensures { result ≡ c_book_of book.now blocks }
 {
     let b = book::check(book, blocks);
@@ -29,8 +28,7 @@ pub extern "C" fn hplog_book(book: &[u8], blocks: u32) -> Answer
     }
 }
 
-#[unsafe(no_mangle)]
-pub extern "C" fn hplog_book_parts(book: &[u8]) -> Answer
+pub fn hplog_book_parts(book: &[u8]) -> Answer
     ensures { result ≡ c_parts_of book.now }
 {
     let c = book::count(book);
@@ -44,8 +42,7 @@ pub extern "C" fn hplog_book_parts(book: &[u8]) -> Answer
     }
 }
 
-#[unsafe(no_mangle)]
-pub extern "C" fn hplog_book_part(book: &[u8], at: u64) -> Answer
+pub fn hplog_book_part(book: &[u8], at: u64) -> Answer
     ensures { result ≡ c_part_of book.now at }
 {
     found(book::part_at(book, at as usize))

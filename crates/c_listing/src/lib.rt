@@ -16,8 +16,7 @@ pub struct Listed {
     pub next: Listing,
 }
 
-#[unsafe(no_mangle)]
-pub extern "C" fn hplog_list(log: &[u8], book: &[u8]) -> Listed
+pub fn hplog_list(log: &[u8], book: &[u8]) -> Listed
     ensures { Started log.now book.now result }
 {
     let c = contents::check(log, book);
@@ -33,8 +32,7 @@ pub extern "C" fn hplog_list(log: &[u8], book: &[u8]) -> Listed
     }
 }
 
-#[unsafe(no_mangle)]
-pub extern "C" fn hplog_list_range(log: &[u8], book: &[u8], t1: u64, t2: u64) -> Listed
+pub fn hplog_list_range(log: &[u8], book: &[u8], t1: u64, t2: u64) -> Listed
     ensures { StartedRange log.now book.now t1 t2 result }
 {
     let range = Range {
@@ -59,8 +57,7 @@ pub extern "C" fn hplog_list_range(log: &[u8], book: &[u8], t1: u64, t2: u64) ->
     }
 }
 
-#[unsafe(no_mangle)]
-pub extern "C" fn hplog_list_next(log: &[u8], book: &[u8], at: Listing, out: &mut [u8]) -> Listed
+pub fn hplog_list_next(log: &[u8], book: &[u8], at: Listing, out: &mut [u8]) -> Listed
     ensures { Went log.now book.now at out.old result out.new }
 {
     let p = listing_pieces::render(log, book, listing_numbers::state_of(at), out);

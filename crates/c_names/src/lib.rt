@@ -10,8 +10,7 @@ use lookup::{Located, Span};
 use name_search::Sought;
 use names::Counted;
 
-#[unsafe(no_mangle)]
-pub extern "C" fn hplog_names(dictionary: &[u8]) -> Answer
+pub fn hplog_names(dictionary: &[u8]) -> Answer
     ensures { result ≡ c_names_of dictionary.now }
 {
     let c = names::check(dictionary);
@@ -31,8 +30,7 @@ fn found(p: Span) -> Answer
     }
 }
 
-#[unsafe(no_mangle)]
-pub extern "C" fn hplog_name(dictionary: &[u8], i: u64) -> Answer
+pub fn hplog_name(dictionary: &[u8], i: u64) -> Answer
     ensures { result ≡ c_name_of dictionary.now i }
 {
     let l = lookup::locate(dictionary, i);
@@ -42,15 +40,13 @@ pub extern "C" fn hplog_name(dictionary: &[u8], i: u64) -> Answer
     }
 }
 
-#[unsafe(no_mangle)]
-pub extern "C" fn hplog_name_at(dictionary: &[u8], at: u64) -> Answer
+pub fn hplog_name_at(dictionary: &[u8], at: u64) -> Answer
     ensures { result ≡ c_name_at_of dictionary.now at }
 {
     found(lookup::name_at(dictionary, at as usize))
 }
 
-#[unsafe(no_mangle)]
-pub extern "C" fn hplog_number(dictionary: &[u8], name: &[u8]) -> Answer
+pub fn hplog_number(dictionary: &[u8], name: &[u8]) -> Answer
     ensures { result ≡ c_number_of dictionary.now name.now }
 {
     let f = name_search::number_of(dictionary, name);

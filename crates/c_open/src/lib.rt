@@ -44,8 +44,7 @@ fn open_short(log: &[u8], rows: usize) -> Answer
     }
 }
 
-#[unsafe(no_mangle)]
-pub extern "C" fn hplog_open(log: &[u8], rows: &mut [u8], frame: &mut [u8]) -> Answer
+pub fn hplog_open(log: &[u8], rows: &mut [u8], frame: &mut [u8]) -> Answer
     ensures { let log₀ = log.now in
         let rows₀ = rows.old in
         let frame₀ = frame.old in

@@ -55,8 +55,7 @@ fn stopped_by(w: Refusal) -> Step
     }
 }
 
-#[unsafe(no_mangle)]
-pub extern "C" fn hplog_delta(payload: &[u8], at: Cursor) -> Step
+pub fn hplog_delta(payload: &[u8], at: Cursor) -> Step
     ensures { result ≡ delta_answer (delta_at payload.now at.at) }
 {
     let r = at.delta(payload);
@@ -66,8 +65,7 @@ pub extern "C" fn hplog_delta(payload: &[u8], at: Cursor) -> Step
     }
 }
 
-#[unsafe(no_mangle)]
-pub extern "C" fn hplog_count(payload: &[u8], at: Cursor) -> Step
+pub fn hplog_count(payload: &[u8], at: Cursor) -> Step
     ensures { result ≡ count_answer (count_at payload.now at.at) }
 {
     let r = at.count(payload);
@@ -106,8 +104,7 @@ fn field_read(f: Field, next: Cursor) -> FieldAnswer
     }
 }
 
-#[unsafe(no_mangle)]
-pub extern "C" fn hplog_field(payload: &[u8], names: u32, at: Cursor) -> FieldAnswer
+pub fn hplog_field(payload: &[u8], names: u32, at: Cursor) -> FieldAnswer
     ensures { result ≡ field_answer (field_at payload.now names at.at) }
 {
     let r = at.field(payload, names);

@@ -52,8 +52,7 @@ fn put_numbers(out: &mut [u8], rows: &[u8], from: Epoch, to: Epoch)
     }
 }
 
-#[unsafe(no_mangle)]
-pub extern "C" fn hplog_query(rows: &[u8], t1: u64, t2: u64, numbers: &mut [u8]) -> Answer
+pub fn hplog_query(rows: &[u8], t1: u64, t2: u64, numbers: &mut [u8]) -> Answer
     ensures { let rows₀ = rows.now in
         let numbers₀ = numbers.old in
         (result ≡ c_query_of rows₀ t1 t2 (length numbers₀))
@@ -80,8 +79,7 @@ pub extern "C" fn hplog_query(rows: &[u8], t1: u64, t2: u64, numbers: &mut [u8])
     }
 }
 
-#[unsafe(no_mangle)]
-pub extern "C" fn hplog_label(name: &[u8], panel: &mut [u8]) -> Answer
+pub fn hplog_label(name: &[u8], panel: &mut [u8]) -> Answer
     ensures { (result ≡ c_label_of name.now (length panel.old))
         × (panel.new ≡ label_out name.now panel.old) }
 {

@@ -66,8 +66,7 @@ fn recover_short(log: &[u8], rows: usize) -> Answer
     }
 }
 
-#[unsafe(no_mangle)]
-pub extern "C" fn hplog_recover(log: &[u8], rows: &mut [u8], report: &mut [u8]) -> Answer
+pub fn hplog_recover(log: &[u8], rows: &mut [u8], report: &mut [u8]) -> Answer
     ensures { let log₀ = log.now in
         let rows₀ = rows.old in
         let report₀ = report.old in
@@ -88,8 +87,7 @@ pub extern "C" fn hplog_recover(log: &[u8], rows: &mut [u8], report: &mut [u8]) 
     }
 }
 
-#[unsafe(no_mangle)]
-pub extern "C" fn hplog_repair(log: &[u8], dictionary: &[u8], out: &mut [u8]) -> Answer
+pub fn hplog_repair(log: &[u8], dictionary: &[u8], out: &mut [u8]) -> Answer
     ensures { let log₀ = log.now in
         let dictionary₀ = dictionary.now in
         let out₀ = out.old in

@@ -18,8 +18,7 @@ fn found(p: Span) -> Answer
     }
 }
 
-#[unsafe(no_mangle)]
-pub extern "C" fn hplog_stored(log: &[u8], rows: &[u8], i: u64) -> Answer
+pub fn hplog_stored(log: &[u8], rows: &[u8], i: u64) -> Answer
     ensures { result ≡ c_stored_of log.now rows.now i }
 {
     let l = access::locate(rows, rows::room(rows) as u64, i);
@@ -29,8 +28,7 @@ pub extern "C" fn hplog_stored(log: &[u8], rows: &[u8], i: u64) -> Answer
     }
 }
 
-#[unsafe(no_mangle)]
-pub extern "C" fn hplog_dictionary(log: &[u8], frame: &[u8]) -> Answer
+pub fn hplog_dictionary(log: &[u8], frame: &[u8]) -> Answer
     ensures { result ≡ c_dictionary_of log.now frame.now }
 {
     found(access::dictionary_span(log, wire::u64_at(frame, 0), wire::u64_at(frame, 8)))

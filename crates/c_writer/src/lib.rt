@@ -129,15 +129,13 @@ fn stored_by(s: State, r: Stored) -> Written
     }
 }
 
-#[unsafe(no_mangle)]
-pub extern "C" fn hplog_writer_new() -> State
+pub fn hplog_writer_new() -> State
     ensures { result ≡ state_of new_writer }
 {
     state_of(Writer::new())
 }
 
-#[unsafe(no_mangle)]
-pub extern "C" fn hplog_begin(state: State, out: &mut [u8]) -> Written
+pub fn hplog_begin(state: State, out: &mut [u8]) -> Written
     ensures { let w = writer_in state in
         let before = out.old in
         (result ≡ storing state (begin_of w (length before))) × (out.new ≡ begin_out w before) }
@@ -147,8 +145,7 @@ pub extern "C" fn hplog_begin(state: State, out: &mut [u8]) -> Written
     stored_by(state, r)
 }
 
-#[unsafe(no_mangle)]
-pub extern "C" fn hplog_add_name(state: State, dictionary: &mut [u8], name: &[u8]) -> Written
+pub fn hplog_add_name(state: State, dictionary: &mut [u8], name: &[u8]) -> Written
     ensures { let w = writer_in state in
         let before = dictionary.old in
         let text = name.now in
@@ -162,8 +159,7 @@ pub extern "C" fn hplog_add_name(state: State, dictionary: &mut [u8], name: &[u8
     }
 }
 
-#[unsafe(no_mangle)]
-pub extern "C" fn hplog_add_entry(
+pub fn hplog_add_entry(
     state: State,
     payload: &mut [u8],
     time: u64,
@@ -189,8 +185,7 @@ pub extern "C" fn hplog_add_entry(
     }
 }
 
-#[unsafe(no_mangle)]
-pub extern "C" fn hplog_add_block(
+pub fn hplog_add_block(
     state: State,
     rows: &mut [u8],
     out: &mut [u8],
@@ -212,8 +207,7 @@ pub extern "C" fn hplog_add_block(
     stored_by(state, r)
 }
 
-#[unsafe(no_mangle)]
-pub extern "C" fn hplog_close(
+pub fn hplog_close(
     state: State,
     rows: &[u8],
     out: &mut [u8],

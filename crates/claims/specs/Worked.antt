@@ -1,6 +1,7 @@
 -- Document 01, "Worked at the edges": the small file, and K1 to K9 as one table, each about the definition that the
 -- contract of its call cites. Assumes nothing.
-use Rattle.std.specs.Prelude.{◌≡◌, Bool, true, false, List, [], ◌∷◌, ◌++◌, ℕ, zero, suc, ◌+◌, negsuc, length, take, replicate}
+use Rattle.std.specs.Prelude.{◌≡◌, Bool, true, false, List, [], ◌∷◌, ◌++◌, ℕ, zero, suc, ◌+◌, negsuc, length, take}
+use Rattle.std.specs.Prelude.{replicate}
 use Rattle.verdict.specs.Rules.{Verdict, sound, broken, Outcome, given}
 use Rattle.wire.specs.Wire.{le}
 use Rattle.rows.specs.declared.Row.{Row}

@@ -6,7 +6,8 @@ use Prim.Native.Nat.{ℕ, zero, suc, ◌+◌, ◌≤◌}
 use lib.Dec.{leb, ltb}
 use borrow.Author.Tests.{leb-true}
 use lib.ListN.{length, drop}
-use Rattle.verdict.specs.Rules.{Rule, holds, number_of, place_of, Verdict, sound, broken, first_broken, Outcome, given, refused, settle, on_given, verdict_in, ruled}
+use Rattle.verdict.specs.Rules.{Rule, holds, number_of, place_of, Verdict, sound, broken, first_broken, Outcome, given, refused, settle, on_given, verdict_in}
+use Rattle.verdict.specs.Rules.{ruled}
 use Rattle.parts.specs.declared.BlockHeader.{BlockHeader}
 use Rattle.cursor.specs.Step.{Step, step, refuse, keep, and_then, outcome, mapped}
 use Rattle.cursor.specs.Reading.{read_delta, read_count, read_field, delta_rules, count_rules, field_rules}

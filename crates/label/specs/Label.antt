@@ -1,7 +1,8 @@
 -- The panel label. Assumes nothing.
 -- Document 01: "The panel label is sixteen bytes: a name of at most sixteen bytes, all from 20 to 7E hex, then spaces."
 -- Document 02, a: "A printable name above sixteen bytes now shows as its first eight bytes, `~`, and its last seven".
-use Rattle.std.specs.Prelude.{ℕ, suc, ◌-◌, Bool, ◌&&◌, cond, List, [], ◌∷◌, ◌++◌, leb, ltb, length, take, drop, replicate}
+use Rattle.std.specs.Prelude.{ℕ, suc, ◌-◌, Bool, ◌&&◌, cond, List, [], ◌∷◌, ◌++◌, leb, ltb, length, take, drop}
+use Rattle.std.specs.Prelude.{replicate}
 use Rattle.wire.specs.Wire.{splice}
 use Rattle.verdict.specs.Rules.{Rule, flag, at_least, if_sound, first_broken, Outcome, settle}
 

@@ -3,7 +3,9 @@ ghost use Rattle.std.specs.Prelude.{◌<◌};
 ghost use Rattle.io.specs.Counts.{IsPrefixLen};
 
 use crate::answers;
-use libc::STDOUT_FILENO;
+
+// Standard output, by its number.
+const STDOUT_FILENO: i32 = 1;
 
 #[derive(Clone, Copy)]
 pub enum Group {

@@ -29,7 +29,11 @@ mod groups;
 mod held;
 
 use groups::Tally;
-use libc::{STDIN_FILENO, STDOUT_FILENO};
+
+// The standard streams, by their numbers.
+const STDIN_FILENO: i32 = 0;
+
+const STDOUT_FILENO: i32 = 1;
 
 // Prints a case that doesn't agree, and the answer that it got.
 fn complain(line: &[u8], got: &[u8]) {

@@ -1,12 +1,14 @@
 // What the library answers of a file, printed.
 use blocks::Scanned;
 use frame::Frame;
-use libc::STDOUT_FILENO;
 use parts::Epoch;
 use reader::Opened;
 use recovery::{Recovered, Report};
 use rows::Row;
 use verdict::{Checked, Refusal};
+
+// Standard output, by its number.
+const STDOUT_FILENO: i32 = 1;
 
 pub fn say(s: &[u8]) {
     io::write_all(STDOUT_FILENO, s);

@@ -37,7 +37,9 @@ mod draft;
 
 use commands::Command;
 use draft::Draft;
-use libc::STDIN_FILENO;
+
+// Standard input, by its number.
+const STDIN_FILENO: i32 = 0;
 
 // The command of a line, with all that is lent.
 fn follow(
