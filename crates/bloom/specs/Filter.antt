@@ -27,4 +27,5 @@ cleared f = replicate (length f) 0
 
 -- x has its mark, as every x has where there are no elements
 unfoldable pub marked : List ℕ → List ℕ → Bool
-marked f x = eqb (length f) 0 || eqb (bit_or (get_or f (place_in f x) 0) (mark_of (digest_of x))) (get_or f (place_in f x) 0)
+marked f x = eqb (length f) 0
+    || eqb (bit_or (get_or f (place_in f x) 0) (mark_of (digest_of x))) (get_or f (place_in f x) 0)

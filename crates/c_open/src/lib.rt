@@ -29,7 +29,8 @@ fn put_frame(out: &mut [u8], log: Frame)
 // first.
 fn open_short(log: &[u8], rows: usize) -> Answer
     ensures { let log₀ = log.now in
-        result ≡ answered (settle (first_broken (call_rules log₀ rows ++ (flag 12 40 false ∷ []))) (frame_of log₀).blocks) }
+        result ≡ answered (settle (first_broken (call_rules log₀ rows ++ (flag 12 40 false ∷ [])))
+        (frame_of log₀).blocks) }
 {
     let r = reader::check(log);
     match r {

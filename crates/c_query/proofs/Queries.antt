@@ -65,5 +65,6 @@ module _ (rows : List ℕ) (t1 t2 : ℕ) where
                 let g : 4 * length (c_chosen rows t1 t2) ≤ length numbers = omega (arith, h, s.1) in
                 rw w
                 (settled sound r
-                (rules ∙ then-sound (row_rules (c_rows rows)) last (counted-rows (c_rows rows) (epoch t1) (epoch t2) k e) ∙ least-holds _ _ _ _ _ g ∙ first-none)
+                (rules ∙ then-sound (row_rules (c_rows rows)) last (counted-rows (c_rows rows) (epoch t1) (epoch t2) k e) ∙ least-holds _ _ _ _ _ g
+                ∙ first-none)
                 (a ∙ ap (λ (m : ℕ). answered (given m)) s.1))

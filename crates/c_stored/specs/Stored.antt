@@ -14,7 +14,8 @@ span_answer (refused n p) = record { number = n; place = p; count = 0 }
 
 -- the stored bytes of block i, by its row; the length of the rows says how many there are
 unfoldable pub c_stored_of : (log rows : List ℕ) (i : ℕ) → Answer
-c_stored_of log rows i = span_answer (on_given (row_in rows (length rows / stride) i) (λ row. given (stored_span log row)))
+c_stored_of log rows i = span_answer
+    (on_given (row_in rows (length rows / stride) i) (λ row. given (stored_span log row)))
 
 -- those of the dictionary, by a frame: "five u64: place of the dictionary's length field, the dictionary's stored size,
 -- [..]" (include/hplog.h)

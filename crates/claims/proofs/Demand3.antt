@@ -105,7 +105,8 @@ module _ (cs : List Call) (t : Taken begun_writer (addings new_writer cs)) (b : 
 
   recovery-holds : (table : List ℕ) → length xs * stride ≤ length table → RecoversFrom ss cut (recover_of f (length table)) table (recover_out f table)
   unfolding RecoversFrom
-  recovery-holds table room = recovery-by f (map block_for xs) (standing 0 cut ss) (dictionaries_in_full cut ss) reports table (rw (length-map xs block_for) room)
+  recovery-holds table room = recovery-by f (map block_for xs) (standing 0 cut ss) (dictionaries_in_full cut ss) reports table
+      (rw (length-map xs block_for) room)
 
   own-holds : some (dictionaries_in_full cut ss) ≡ true → (lent out : List ℕ) → length (finished ss) ≤ length out
       → RepairsWhole ss cut (repair_of f lent (length out)) out (repair_out f lent out)

@@ -137,7 +137,8 @@ module _ (s t : List ℕ) (ns : List (List ℕ)) (right : Right ns) (here : drop
   abbrev Behind : ℕ → List ℕ
   Behind i = names_bytes (suc i) (drop (suc i) ns) ++ t
 
-  name-first : (i : ℕ) → i < length ns → drop (place_of s i) s ≡ names_bytes i (drop i ns) ++ t → drop (place_of s i) s ≡ name_bytes i (get_or ns i []) ++ Behind i
+  name-first : (i : ℕ) → i < length ns → drop (place_of s i) s ≡ names_bytes i (drop i ns) ++ t → drop (place_of s i) s ≡ name_bytes i (get_or ns i [])
+      ++ Behind i
   unfolding names_bytes
   name-first i l e =
       e ∙ ap (λ (m : List (List ℕ)). names_bytes i m ++ t) (drop-cons ns i [] l)

@@ -317,7 +317,8 @@ module _ (h : Writing) (ns : List (List ℕ)) (g : Holding h.writer h.dictionary
   begin-after out sound e = rw e (begun-holds w h.dictionary ns (begin-new w (length out) e) g)
   begin-after out (broken n p) e = rw e g
 
-  name-after : (d n : List ℕ) → (verdict_for w (name d n) ≡ sound → Agrees h (name d n)) → (v : Verdict) → first_broken (name_rules w d n) ≡ v → After (name d n)
+  name-after : (d n : List ℕ) → (verdict_for w (name d n) ≡ sound → Agrees h (name d n)) → (v : Verdict) → first_broken (name_rules w d n) ≡ v
+      → After (name d n)
   unfolding verdict_for next dictionary_after held_after writer.name_of name_out
   name-after d n a sound e =
       let p = name-parts w d n e in

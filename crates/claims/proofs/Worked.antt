@@ -69,24 +69,35 @@ bytes (b ∷ s) t zero = ltb→lt b 256 (and_yes (ltb b 256) (below s) t).0
 bytes (b ∷ s) t (suc k) = bytes s (and_yes (ltb b 256) (below s) t).1 k
 
 pub worked : Worked
-unfolding first_broken holds number_of rules.place_of ruled le from_le le_at splice same bit_step steps byte_step crc_from crc32 within tails sequences followers
-    utf8_from utf8_of above decode_in decode encode_in encode spelled header_fields header_bytes header_of block_header_fields block_header_bytes block_header_of
+unfolding first_broken holds number_of rules.place_of ruled le from_le le_at splice same bit_step steps byte_step crc_from crc32 within tails sequences
+    followers
+    utf8_from utf8_of above decode_in decode encode_in encode spelled header_fields header_bytes header_of block_header_fields block_header_bytes
+    block_header_of
     index_row_fields
     index_row_bytes index_row_of footer_fields footer_bytes header_rules since_of within_span belongs_to rows.row_bytes rows.row_of rows.row_at rows.room_rules
     rows.numbered_from rows_of table_bytes first_time last_from head_of block_bytes row_for
-    dictionary_bytes rows_bytes index_bytes tail_bytes closed_header closing_bytes stored_at end_at end_along head_rules sum_rule blocks.block_rules blocks.block_row
+    dictionary_bytes rows_bytes index_bytes tail_bytes closed_header closing_bytes stored_at end_at end_along head_rules sum_rule blocks.block_rules
+    blocks.block_row
     scan_from
-    scan_of right_length right_bytes delta_rules read_delta count_rules read_count id_in kind_in length_in bytes_in size_in cursor.field_rules read_field as_delta delta_at
-    as_field field_at value_at val_in read_fields entries.order_rules read_entry entries_from entries_of last_time pack_field pack_fields field_in fields_in field_size
-    fields_size entry_size entry_bytes part_right text_rules packing.field_rules packing.room_rules sized_rules pack_rules records_in value_for record_at records_from
-    fields_of name_at next_at dictionary.place_of dictionary.name_of held shape_rules new_rule names_rules dictionary.dictionary_rules is_name seek_from printable
-    print_rules label_rules shortened label_of padded abridged label_bytes label_out listed chosen query.order_rules query.count_rules query_rules query_of query_out
+    scan_of right_length right_bytes delta_rules read_delta count_rules read_count id_in kind_in length_in bytes_in size_in cursor.field_rules read_field
+    as_delta delta_at
+    as_field field_at value_at val_in read_fields entries.order_rules read_entry entries_from entries_of last_time pack_field pack_fields field_in fields_in
+    field_size
+    fields_size entry_size entry_bytes part_right text_rules packing.field_rules packing.room_rules sized_rules pack_rules records_in value_for record_at
+    records_from
+    fields_of name_at next_at dictionary.place_of dictionary.name_of held shape_rules new_rule names_rules dictionary.dictionary_rules is_name seek_from
+    printable
+    print_rules label_rules shortened label_of padded abridged label_bytes label_out listed chosen query.order_rules query.count_rules query_rules query_of
+    query_out
     frame.dictionary_rules whole_dictionary frame_of place_rules index_size length_rules index_rules footer_rules frame_rules index_rows row_rules blocks_rules
     after_rules rows_in open_rules reader.call_rules open_of limit_of offset_rules recover_rules report_of recovery.call_rules
-    recover_of is_new is_begun is_open bound_rules begun_rules first_bytes begin_rules begin_of begin_out held_as new_rules name_rules with_name name.name_of name_bytes
+    recover_of is_new is_begun is_open bound_rules begun_rules first_bytes begin_rules begin_of begin_out held_as new_rules name_rules with_name name.name_of
+    name_bytes
     appended name_out start_for earliest_for delta_for time_rules entry_rules with_entry entry_of entry_out read_by block_for take_rules block.store_rules
-    block.block_rules with_block block_of rows_out block_out last_bytes end_rules last_rules close_rules close_of close_out store_bytes total headed put disk verdict_for
-    next last_stores handed stores run dictionary_after payload_after table_after behind Fair names_bytes plain_names small_open small_added small_closed verdicts
+    block.block_rules with_block block_of rows_out block_out last_bytes end_rules last_rules close_rules close_of close_out store_bytes total headed put disk
+    verdict_for
+    next last_stores handed stores run dictionary_after payload_after table_after behind Fair names_bytes plain_names small_open small_added small_closed
+    verdicts
 worked =
     record {
       fair = (

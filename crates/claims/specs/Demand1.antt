@@ -24,4 +24,5 @@ pub record RefusalsLeave : Type 0 where
       → repair_out f lent out ≡ out
   pub queries : (rows : List Row) (t1 t2 : Epoch) (numbers : List ℕ) (n p : ℕ)
       → query_of rows t1 t2 (length numbers) ≡ refused n p → query_out rows t1 t2 numbers ≡ numbers
-  pub labels : (name panel : List ℕ) (n p : ℕ) → label_of name (length panel) ≡ refused n p → label_out name panel ≡ panel
+  pub labels : (name panel : List ℕ) (n p : ℕ) → label_of name (length panel) ≡ refused n p → label_out name panel
+      ≡ panel

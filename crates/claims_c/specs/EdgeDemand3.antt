@@ -48,7 +48,8 @@ pub record EdgeFinishes (f : List ℕ) (xs : List Adding) (stored : List ℕ) : 
 
 -- of stores and a cut that leaves the first 64 bytes, with room for the rows and the report of hplog_recover
 pub record EdgeAtCut (ss : List Store) (cut : ℕ) : Type 0 where
-  pub recovery : (rows report : List ℕ) → length (addings_in_full cut ss) * stride ≤ length rows → 32 ≤ length report → (
+  pub recovery : (rows report : List ℕ) → length (addings_in_full cut ss) * stride ≤ length rows → 32 ≤ length report
+      → (
       let bs = map block_for (addings_in_full cut ss) in
       let stop = stop_for (end_from 64 bs) (standing 0 cut ss) in
       EdgeRecovery (disk cut [] ss) rows report bs stop (some (dictionaries_in_full cut ss)))

@@ -101,7 +101,8 @@ blocks-numbered sum (suc n) f limit at number earliest row =
 
 open-numbered : (f : List ℕ) → all_listed (reader.open_rules crc32 f) ≡ true
 unfolding reader.open_rules reader.after_rules all_listed number_of
-open-numbered f = both (frame.frame_rules f) _ (frame-numbered f) (both (reader.blocks_rules crc32 _ f _ 64 0 0 _) _ (blocks-numbered crc32 _ f _ 64 0 0 _) refl)
+open-numbered f = both (frame.frame_rules f) _ (frame-numbered f)
+    (both (reader.blocks_rules crc32 _ f _ 64 0 0 _) _ (blocks-numbered crc32 _ f _ 64 0 0 _) refl)
 
 open-call-numbered : (f : List ℕ) (room : ℕ) → all_listed (reader.call_rules f room) ≡ true
 unfolding reader.call_rules room_rules all_listed number_of
@@ -250,7 +251,8 @@ unfolding contents.contents_rules
 contents-numbered f s =
     both (reader.open_rules crc32 f) _ (open-numbered f)
     (both (book.book_rules _ s) _ (book-numbered _ s)
-    (both (names.dictionary_rules (contents.dictionary_of f s)) _ (dictionary-numbered (contents.dictionary_of f s)) (entries-numbered _ f s 64 book.first_part _)))
+    (both (names.dictionary_rules (contents.dictionary_of f s)) _ (dictionary-numbered (contents.dictionary_of f s))
+    (entries-numbered _ f s 64 book.first_part _)))
 
 contents-listed : (f s : List ℕ) → Listed (verdict_in (contents.contents_of f s))
 unfolding contents.contents_of
@@ -379,7 +381,8 @@ name-listed : (w : Writer) (d n : List ℕ) → Listed (verdict_in (naming.name_
 unfolding naming.name_of
 name-listed w d n = settled (naming.name_rules w d n) _ (name-numbered w d n)
 
-entry_listed : (w : Writer) (t : Epoch) (text : List ℕ) (count : ℕ) (fs : List Field) (room : ℕ) → Listed (verdict_in (entering.entry_of w t text count fs room))
+entry_listed : (w : Writer) (t : Epoch) (text : List ℕ) (count : ℕ) (fs : List Field) (room : ℕ)
+    → Listed (verdict_in (entering.entry_of w t text count fs room))
 unfolding entering.entry_of
 entry_listed w t text count fs room = settled (entering.entry_rules w t text count fs room) _ (entry-numbered w t text count fs room)
 
@@ -473,7 +476,8 @@ table-numbers =
       hplog-list-next = next-accepted;
       hplog-begin = λ s room. storing-returns s (begin_of (writer_in s) room) (begin-listed (writer_in s) room);
       hplog-add-name = λ s d n. naming-returns s (naming.name_of (writer_in s) d n) (name-listed (writer_in s) d n);
-      hplog-add-entry = λ s t text k fs room. entering-returns s (entering.entry_of (writer_in s) t text k fs room) (entry_listed (writer_in s) t text k fs room);
+      hplog-add-entry = λ s t text k fs room. entering-returns s (entering.entry_of (writer_in s) t text k fs room)
+          (entry_listed (writer_in s) t text k fs room);
       hplog-add-block = λ s a table room. storing-returns s (block_of (writer_in s) a table room) (adding-listed (writer_in s) a table room);
       hplog-close = λ s table plain stored room.
           storing-returns s (close_of (writer_in s) table plain stored room) (close-listed (writer_in s) table plain stored room);

@@ -230,7 +230,8 @@ pub dictionary-listed : (s : List ℕ) → Listed (verdict_in (names.dictionary_
 unfolding names.dictionary_of
 dictionary-listed s = settled (names.dictionary_rules s) _ (dictionary-numbered s)
 
-on-listed : {A B : Type 0} (o : Outcome A) (f : A → Outcome B) → Listed (verdict_in o) → ((a : A) → Listed (verdict_in (f a))) → Listed (verdict_in (on_given o f))
+on-listed : {A B : Type 0} (o : Outcome A) (f : A → Outcome B) → Listed (verdict_in o) → ((a : A) → Listed (verdict_in (f a)))
+    → Listed (verdict_in (on_given o f))
 on-listed (given a) f h g = g a
 on-listed (refused n p) f h g = h
 

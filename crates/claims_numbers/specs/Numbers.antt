@@ -173,8 +173,10 @@ pub record TableNumbers : Type 0 where
   pub hplog-name : (s : List ℕ) (i : ℕ) → Returns (verdict_in (lookup_of s i)) (c_name_of s i).number
   pub hplog-name-at : (s : List ℕ) (at : ℕ) → (c_name_at_of s at).number ≡ 0
   pub hplog-number : (s n : List ℕ) → Returns (verdict_in (seek_of s n)) (c_number_of s n).number
-  pub hplog-delta : (s : List ℕ) (at : ℕ) → Returns (delta_verdict (delta_at s at)) (delta_answer (delta_at s at)).number
-  pub hplog-count : (s : List ℕ) (at : ℕ) → Returns (count_verdict (count_at s at)) (count_answer (count_at s at)).number
+  pub hplog-delta : (s : List ℕ) (at : ℕ)
+      → Returns (delta_verdict (delta_at s at)) (delta_answer (delta_at s at)).number
+  pub hplog-count : (s : List ℕ) (at : ℕ)
+      → Returns (count_verdict (count_at s at)) (count_answer (count_at s at)).number
   pub hplog-field : (s : List ℕ) (names at : ℕ)
       → Returns (field_verdict (field_at s names at)) (field_answer (field_at s names at)).number
   pub hplog-check-block : (log : List ℕ) (at : ℕ) (plain : List ℕ) (names : ℕ)

@@ -97,7 +97,8 @@ module _ (k at : ℕ) (f : List ℕ) (rows : List Row) (d : List ℕ) where
       let e : k - 64 ≡ 0 = omega arith in
       let m : k < length (header_bytes (closed_header at rows)) = rw length-header h in
       rw (put-part k f (header_bytes (closed_header at rows)) m (omega arith), length-header (closed_header at rows), e)
-      (disk-zero f (dictionary_store d (dictionary_bytes d) ∷ end_store (index_bytes rows) ∷ end_store (footer_bytes (record { index = at + 4 + length d })) ∷ []))
+      (disk-zero f (dictionary_store d (dictionary_bytes d) ∷ end_store (index_bytes rows) ∷ end_store (footer_bytes (record { index = at + 4 + length d }))
+      ∷ []))
 
   disk-closed : 64 ≤ k
       → disk k f (closing_stores at rows d) ≡ header_bytes (closed_header at rows) ++ (drop 64 f ++ take (k - 64) (tail_bytes (at + 4 + length d) rows d))

@@ -70,7 +70,15 @@ prefix n k p cut earliest (b ∷ bs) v e =
           }))
       | no c ↦
           rw (full-part p cut b bs (omega arith))
-          (record { later = b ∷ bs; rest = take k (block_bytes n b ++ blocks_bytes (suc n) bs); blocks-are = refl; bytes-are = refl; valid = tt; few = zero-le })
+          (record {
+            later = b ∷ bs;
+            rest = take k (block_bytes n b
+                ++ blocks_bytes (suc n) bs);
+            blocks-are = refl;
+            bytes-are = refl;
+            valid = tt;
+            few = zero-le;
+          })
     ]
 
 -- ---- what stands of the first of them that isn't in full

@@ -390,7 +390,8 @@ module _ (bs : List Block) (v : Valid 0 bs) (few : length bs ≤ 4096) (d : List
 
     pub head-finished : head_at (finished_file bs d) (end_from 64 before) ≡ head_of (length before) b
     head-finished =
-        scans.head-back (finished_file bs d) (end_from 64 before) (length before) (last_end 0 before) b (blocks_bytes (suc (length before)) after ++ tail_of bs d)
+        scans.head-back (finished_file bs d) (end_from 64 before) (length before) (last_end 0 before) b (blocks_bytes (suc (length before)) after
+        ++ tail_of bs d)
         here-block small-number good-block
 
     pub stored-finished : stored_of (finished_file bs d) (row_for (length before) (end_from 64 before) b) ≡ b.stored

@@ -128,7 +128,8 @@ module _ (bs : List Block) (v : Valid 0 bs) (few : length bs ≤ 4096) (r : List
   )
 
   pub behind-header : drop 64 (closed_file bs r) ≡ blocks_bytes 0 bs ++ r
-  behind-header = drop_at (header_bytes (closed_header (end_of bs) (table_of bs))) (blocks_bytes 0 bs ++ r) 64 (length-header (closed_header (end_of bs) (table_of bs)))
+  behind-header = drop_at (header_bytes (closed_header (end_of bs) (table_of bs))) (blocks_bytes 0 bs
+      ++ r) 64 (length-header (closed_header (end_of bs) (table_of bs)))
 
   pub behind-blocks : drop (end_of bs) (closed_file bs r) ≡ r
   behind-blocks =

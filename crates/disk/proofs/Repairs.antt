@@ -52,7 +52,8 @@ module _ (r : Report) (lent : ℕ) where
   lent_fits w p q = rw w (most-holds 6 lent _ lent 4294967295 (omega arith) ∙ least-holds 16 r.end [] lent 1 p ∙ first-none)
 
 module _ (f lent : List ℕ) where
-  rules-sound : (room : ℕ) → first_broken (recover_rules f) ≡ sound → first_broken (closed_rules (header_of f).dictionary (header_of f).blocks (report_of f)) ≡ sound
+  rules-sound : (room : ℕ) → first_broken (recover_rules f) ≡ sound → first_broken (closed_rules (header_of f).dictionary (header_of f).blocks (report_of f))
+      ≡ sound
       → first_broken (lent_rules (report_of f) (length lent)) ≡ sound → length (repaired f lent) ≤ room → first_broken (repair_rules f lent room) ≡ sound
   unfolding repair_rules
   rules-sound room a b c h =
@@ -83,7 +84,8 @@ module _ (f lent result : List ℕ) (g : Gives f lent result) (out : List ℕ) (
   repair-leaves = rw (g.accepts (length out) room, g.gives)
 
 gives-by : (f lent : List ℕ) (rows : List Row) (body d : List ℕ) → first_broken (recover_rules f) ≡ sound
-    → first_broken (closed_rules (header_of f).dictionary (header_of f).blocks (report_of f)) ≡ sound → first_broken (lent_rules (report_of f) (length lent)) ≡ sound
+    → first_broken (closed_rules (header_of f).dictionary (header_of f).blocks (report_of f)) ≡ sound → first_broken (lent_rules (report_of f) (length lent))
+    ≡ sound
     → (report_of f).rows ≡ rows → part f 64 ((report_of f).end - 64) ≡ body → dictionary_for f lent ≡ d
     → Gives f lent (finished_bytes rows body d)
 gives-by f lent rows body d a b c p q r =

@@ -62,7 +62,8 @@ module _ (f : List ℕ) (at n earliest : ℕ) (b : Block) (t : List ℕ) (here :
   head-back = head_read f at n earliest b (b.stored ++ t) behind-head small g
 
   behind : drop (at + 36) f ≡ b.stored ++ t
-  behind = sym (drop-drop 36 at f) ∙ ap (drop 36) behind-head ∙ drop_at (block_header_bytes (head_of n b)) (b.stored ++ t) 36 (length-block-header (head_of n b))
+  behind = sym (drop-drop 36 at f) ∙ ap (drop 36) behind-head
+      ∙ drop_at (block_header_bytes (head_of n b)) (b.stored ++ t) 36 (length-block-header (head_of n b))
 
   pub stored_back : stored_at f at ≡ b.stored
   unfolding stored_at head_of

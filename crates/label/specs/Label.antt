@@ -39,4 +39,5 @@ label_bytes name = cond (shortened name) (abridged name) (padded name)
 
 -- the panel afterwards: the label at its front, or what it was
 unfoldable pub label_out : List ℕ → List ℕ → List ℕ
-label_out name panel = if_sound (first_broken (label_rules name (length panel))) (splice panel 0 (label_bytes name)) panel
+label_out name panel = if_sound (first_broken (label_rules name (length panel))) (splice panel 0 (label_bytes name))
+    panel

@@ -58,7 +58,8 @@ pub record RepairsCut (answer : Outcome Kept) (f d out left : List ℕ) : Type 0
   pub lent : (cs : List Call) → Fair new_writing cs → (cut : ℕ) → (
       let ss = run new_writer cs in
       let xs = addings_in_full cut ss in
-      f ≡ disk cut [] ss → 64 ≤ length f → some (dictionaries_in_full cut ss) ≡ false → 1 ≤ length d → length d < 256 ^ 4
+      f ≡ disk cut [] ss → 64 ≤ length f → some (dictionaries_in_full cut ss) ≡ false → 1 ≤ length d
+      → length d < 256 ^ 4
       → (c : Finishing xs d) → length (finished_by xs d c) ≤ length out
       → Repair answer out left (finished_by xs d c) (end_from 64 (map block_for xs)))
 

@@ -34,10 +34,12 @@ pub returns-in-Broken : goal.returns-in-Broken
 returns-in-Broken c =
     let a = c.args in
     c.refused.ensures
-    ∙ block_refused a.log.now a.at a.plain.now a.names (whole (goal.at.returns-in-Broken c).After-check_block-v) _ _ (rw c.in-Broken.is at (checked (goal.at.returns-in-Broken c).After-check_block-v))
+    ∙ block_refused a.log.now a.at a.plain.now a.names (whole (goal.at.returns-in-Broken c).After-check_block-v) _ _
+    (rw c.in-Broken.is at (checked (goal.at.returns-in-Broken c).After-check_block-v))
 
 pub returns-in-Sound : goal.returns-in-Sound
 returns-in-Sound c =
     let a = c.args in
     c.accepted.ensures ∙ ap (λ (h : BlockHeader). answered (given h.entries)) c.read-header.ensures
-    ∙ block-given a.log.now a.at a.plain.now a.names (whole (goal.at.returns-in-Sound c).After-check_block-v) (rw c.in-Sound.is at (checked (goal.at.returns-in-Sound c).After-check_block-v))
+    ∙ block-given a.log.now a.at a.plain.now a.names (whole (goal.at.returns-in-Sound c).After-check_block-v)
+    (rw c.in-Sound.is at (checked (goal.at.returns-in-Sound c).After-check_block-v))

@@ -28,7 +28,8 @@ counted c = rw c.in-Listed.is at c.count-r.ensures
 pub returns-then-numbers-needed : goal.returns-then-numbers-needed
 returns-then-numbers-needed c =
     let a = c.args in
-    query-short a.rows.now a.t1 a.t2 a.numbers.now _ c.if-t2-t1.false c.if-n-ne0.false _ (counted (goal.at.returns-then-numbers-needed c).In-Listed) c.if-numbers-needed.true c.refuse-then-numbers-needed.ensures
+    query-short a.rows.now a.t1 a.t2 a.numbers.now _ c.if-t2-t1.false c.if-n-ne0.false _ (counted (goal.at.returns-then-numbers-needed c).In-Listed)
+    c.if-numbers-needed.true c.refuse-then-numbers-needed.ensures
 
 pub put_numbers-requires : goal.put_numbers-requires
 put_numbers-requires c =
@@ -47,5 +48,6 @@ returns-in-Refused c =
 pub returns-else-numbers-needed : goal.returns-else-numbers-needed
 returns-else-numbers-needed c =
     let a = c.args in
-    query-gives a.rows.now a.t1 a.t2 a.numbers.now _ c.if-t2-t1.false c.if-n-ne0.false _ (counted (goal.at.returns-else-numbers-needed c).In-Listed) _ c.if-numbers-needed.false c.put_numbers.ensures
+    query-gives a.rows.now a.t1 a.t2 a.numbers.now _ c.if-t2-t1.false c.if-n-ne0.false _ (counted (goal.at.returns-else-numbers-needed c).In-Listed) _
+    c.if-numbers-needed.false c.put_numbers.ensures
     c.accepted.ensures

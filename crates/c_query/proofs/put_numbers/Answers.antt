@@ -51,10 +51,17 @@ loop-i-preserved c =
     let rest = drop (c.loop-i.i + 1) (c_rows a.rows.now) in (
       search rules,
       rw c.put_number-at.ensures.1 (length-splice c.loop-i.out c.loop-i.at (numbers_bytes one) ∙ c.loop-i.invariant.1),
-      omega (arith, c.put_number-at.ensures.0, ap length (turn (goal.at.loop-i-preserved c).After-row_at-row), length-cons a.from a.to c.loop-i.i c.row_at-row.result rest),
+      omega (
+        arith,
+        c.put_number-at.ensures.0,
+        ap length (turn (goal.at.loop-i-preserved c).After-row_at-row),
+        length-cons a.from a.to c.loop-i.i
+            c.row_at-row.result rest,
+      ),
       rw (c.put_number-at.ensures.1, c.put_number-at.ensures.0)
           (put-turn a.from a.to c.loop-i.out c.loop-i.at c.loop-i.i c.row_at-row.result rest
-          ∙ ap (λ (ns : List ℕ). splice c.loop-i.out c.loop-i.at (numbers_bytes ns)) (sym (turn (goal.at.loop-i-preserved c).After-row_at-row)) ∙ c.loop-i.invariant.3),
+          ∙ ap (λ (ns : List ℕ). splice c.loop-i.out c.loop-i.at (numbers_bytes ns)) (sym (turn (goal.at.loop-i-preserved c).After-row_at-row))
+          ∙ c.loop-i.invariant.3),
     )
 
 pub shape_of-out : goal.shape_of-out

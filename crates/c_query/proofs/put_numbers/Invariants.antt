@@ -10,7 +10,8 @@ use Rattle.c_query.proofs.put_numbers.Given as goal
 abbrev pub invariant-loop-i : goal.invariant-loop-i
 invariant-loop-i l =
     (l.i ≤ l.count) × (length l.out ≡ length l.initial.out) × (l.at + 4 * length (chosen l.from l.to l.i (drop l.i (c_rows l.rows))) ≤ length l.initial.out)
-    × (splice l.out l.at (numbers_bytes (chosen l.from l.to l.i (drop l.i (c_rows l.rows)))) ≡ splice l.initial.out 0 (numbers_bytes (chosen l.from l.to 0 (c_rows l.rows))))
+    × (splice l.out l.at (numbers_bytes (chosen l.from l.to l.i (drop l.i (c_rows l.rows))))
+    ≡ splice l.initial.out 0 (numbers_bytes (chosen l.from l.to 0 (c_rows l.rows))))
 
 abbrev pub decreases-loop-i : goal.decreases-loop-i
 decreases-loop-i l = l.count - l.i

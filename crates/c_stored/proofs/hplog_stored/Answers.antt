@@ -23,10 +23,12 @@ unfolding c_stored_of
 returns-in-Row c =
     let log = c.args.log.now in
     c.found.ensures ∙ ap (λ (p : Span). span_answer (given p)) c.stored_span.ensures
-    ∙ ap (λ (o : Outcome Row). span_answer (on_given o (λ row. given (stored_span log row)))) (rw c.in-Row.is at (located (goal.at.returns-in-Row c).After-locate-l))
+    ∙ ap (λ (o : Outcome Row). span_answer (on_given o (λ row. given (stored_span log row))))
+    (rw c.in-Row.is at (located (goal.at.returns-in-Row c).After-locate-l))
 
 pub returns-in-Refused : goal.returns-in-Refused
 unfolding c_stored_of
 returns-in-Refused c =
     let log = c.args.log.now in
-    c.refused.ensures ∙ ap (λ (o : Outcome Row). span_answer (on_given o (λ row. given (stored_span log row)))) (rw c.in-Refused.is at (located (goal.at.returns-in-Refused c).After-locate-l))
+    c.refused.ensures ∙ ap (λ (o : Outcome Row). span_answer (on_given o (λ row. given (stored_span log row))))
+    (rw c.in-Refused.is at (located (goal.at.returns-in-Refused c).After-locate-l))

@@ -86,7 +86,8 @@ returns c =
     none_left c.last_five.result m 304 (omega arith)
     ∙ five-turn o.a o.b o.c o.d o.e _ _ _ _ _ _ m 264 (bytes (goal.at.returns c).At-loop-i) (omega arith)
     (c.merged_word-2.ensures ∙ eight (goal.at.returns c).At-loop-i 264 (omega arith))
-    (c.merged_word-3.ensures ∙ eight (goal.at.returns c).At-loop-i 272 (omega arith)) (c.merged_word-4.ensures ∙ eight (goal.at.returns c).At-loop-i 280 (omega arith))
+    (c.merged_word-3.ensures ∙ eight (goal.at.returns c).At-loop-i 272 (omega arith)) (c.merged_word-4.ensures
+    ∙ eight (goal.at.returns c).At-loop-i 280 (omega arith))
     (c.merged_word-5.ensures ∙ eight (goal.at.returns c).At-loop-i 288 (omega arith))
     (c.merged_word-6.ensures ∙ eight (goal.at.returns c).At-loop-i 296 (omega arith)) c.last_five.ensures
     ∙ rw e at o.invariant.same
