@@ -44,8 +44,7 @@ run: all
 check: all
 	tools/check-claims
 	tools/check-widths
-	rt fmt --check
-	rt check
+	rt all check
 	HPLOG_LIB=$(dir $(LIBRARY)) tests/run
 	command/tests/run
 

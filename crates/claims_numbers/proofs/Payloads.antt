@@ -18,6 +18,7 @@ use Rattle.entries.specs.Model.{Entry}
 use Rattle.entries.specs.Reading.{read_fields, order_rules, read_entry, entries_from, entries_of}
 use Rattle.entries.specs.Answers.{as_entry, rest_at}
 use Rattle.entries.specs.Block as block
+use Rattle.packing.specs.Entry.{field_size}
 use Rattle.packing.specs.Rules as packing
 use Rattle.packing.proofs.Answers.{and_both}
 use Rattle.names.specs.Dictionary as names
@@ -208,7 +209,7 @@ text-numbered (f ∷ fs) = text-numbered fs
 fields-numbered : (n : ℕ) (t : List ℕ) (at : ℕ) (fs : List Field) → all_listed (packing.field_rules n t at fs) ≡ true
 unfolding packing.field_rules all_listed number_of
 fields-numbered n t at [] = refl
-fields-numbered n t at (f ∷ fs) = fields-numbered n t _ fs
+fields-numbered n t at (f ∷ fs) = fields-numbered n t (at + field_size f) fs
 
 pub pack-numbered : (room at d n : ℕ) (t : List ℕ) (count : ℕ) (fs : List Field) → all_listed (packing.pack_rules room at d n t count fs) ≡ true
 unfolding packing.pack_rules packing.sized_rules packing.room_rules all_listed number_of
