@@ -228,6 +228,8 @@ write room [] [] none h names start n prev f i known g soon fits l =
       first = λ q. i.first (omega arith);
       last = λ q. i.last (omega arith);
     }
+write room [] (c ∷ cs) adds h names start n prev f i known g soon fits l = elim adds [ ]
+write room (e ∷ es) [] adds h names start n prev f i known g soon fits l = elim adds [ ]
 write room (e ∷ es) (c ∷ cs) (more {payload = p} {text = text} {fields = fields} s r a) h names start n prev f i known g soon fits l =
     let w = h.writer in
     let b = pack_entry start e in

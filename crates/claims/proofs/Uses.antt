@@ -21,7 +21,7 @@ use Rattle.cursor.specs.declared.Field.{Field}
 use Rattle.entries.specs.Model.{Entry}
 use Rattle.entries.specs.Reading.{entries_of}
 use Rattle.lookup.specs.Lookup.{lookup_of, name_in}
-use Rattle.packing.specs.Entry.{field_in, fields_in}
+use Rattle.packing.specs.Entry.{field_size, field_in, fields_in}
 use Rattle.packing.specs.Rules.{text_rules, field_rules, sized_rules, pack_rules}
 use Rattle.packing.specs.Table.{records_in, fields_of}
 use Rattle.reader.specs.Open.{open_out}
@@ -94,7 +94,7 @@ known_more m n (e ∷ es) l k = (fields-known-more m n e.fields l k.0, known_mor
 known-by-rules : (names : ℕ) (t : List ℕ) (at : ℕ) (fs : List Field) → Held (field_rules names t at fs) → KnownFields names (fields_in t fs)
 unfolding field_rules fields_in field_in KnownFields holds
 known-by-rules names t at [] h = tt
-known-by-rules names t at (f ∷ fs) h = (ltb-true f.id names h.0, known-by-rules names t _ fs h.1.1)
+known-by-rules names t at (f ∷ fs) h = (ltb-true f.id names h.0, known-by-rules names t (at + field_size f) fs h.1.1)
 
 known-entry : (w : Writer) (p : List ℕ) (t : Epoch) (text fields : List ℕ)
     → first_broken (entry_rules w t text (records_in fields) (fields_of fields) (length p)) ≡ sound → KnownFields w.names (fields_in text (fields_of fields))

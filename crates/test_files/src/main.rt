@@ -1,7 +1,4 @@
 // Runs cases of whole files against the compiled library.
-
-// Standard input, by its number.
-const STDIN_FILENO: i32 = 0;
 //
 // A line of standard input is a command and its words, with one space between them: numbers in decimal, bytes in
 // hexadecimal ('-' for none). Empty lines and those that start with '#' are passed over. Kept from line to line are a
@@ -10,6 +7,10 @@ const STDIN_FILENO: i32 = 0;
 //   file HEX, append HEX         nothing: the bytes are the file, or come behind it
 //   flips A B                    `glance` with the byte at each offset from A up to B one more, behind the offset
 #![tactic(auto)]
+
+// Standard input, by its number.
+const STDIN_FILENO: i32 = 0;
+
 // The first n bytes, with one of them one more while they are looked at.
 fn flip(file: &mut [u8], n: usize, at: usize, table: &mut [u8]) {
     let b = wire::u8_at(&*file, at);
