@@ -117,7 +117,7 @@ fn place(group: Group) -> usize
 }
 
 // How many cases each group has, and how many of them agree.
-#[derive(Drop)]
+#[derive(Clone, Copy)]
 pub struct Tally {
     pub agree: [u64; 14],
     pub cases: [u64; 14],
