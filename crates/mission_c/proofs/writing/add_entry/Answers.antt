@@ -4,4 +4,4 @@ use Rattle.mission_c.proofs.writing.add_entry.Goals as goal
 
 pub returns : goal.returns
 returns c =
-    entry-tied _ _ _ _ _ _ _ c.hplog_add_entry.ensures.0 c.hplog_add_entry.ensures.1
+    entry-tied _ _ _ _ _ _ _ c.hplog_add_entry.ensures.answer c.hplog_add_entry.ensures.bytes
