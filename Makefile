@@ -27,7 +27,7 @@ endif
 
 all: $(LIBRARY) $(COMMAND)
 
-target/lib/libhplog.a: $(shell find crates -type f 2>/dev/null) crates.txt levels/levels.c
+target/lib/libhplog.a: $(shell find crates -name out -prune -o -type f -print 2>/dev/null) crates.txt levels/levels.c
 	CC="$(CC)" LEVEL=$(LEVEL) tools/make-library
 
 $(COMMAND): $(OBJECTS) $(LIBRARY)
@@ -44,7 +44,7 @@ run: all
 check: all
 	tools/check-claims
 	tools/check-widths
-	rt all check
+	rt all test
 	HPLOG_LIB=$(dir $(LIBRARY)) tests/run
 	command/tests/run
 
