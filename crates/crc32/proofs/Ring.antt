@@ -16,7 +16,7 @@ use Rattle.wire.specs.Wire.{splice, le}
 use Rattle.crc32_fold.specs.Fold.{carry, folded, merged, initial}
 use Rattle.crc32_fold.proofs.Fold.{length_merged}
 use Rattle.crc32_register.proofs.Xor.{xor_assoc}
-use Rattle.crc32_fold.proofs.Window.{folded-add, get_d-merged, made_more}
+use Rattle.crc32_fold.proofs.Window.{folded-add, get_or-merged, made_more}
 use Rattle.crc32.specs.Far.{far}
 use Rattle.crc32.specs.Inner.{from, added}
 
@@ -222,13 +222,13 @@ length-added [] ys = refl
 length-added (x ∷ xs) [] = refl
 length-added (x ∷ xs) (y ∷ ys) = ap suc (length-added xs ys)
 
-get_d-added : (xs ys : List ℕ) (k : ℕ) → k < length xs → get_or (added xs ys) k 0 ≡ bit_xor (get_or xs k 0) (get_or ys k 0)
+get_or-added : (xs ys : List ℕ) (k : ℕ) → k < length xs → get_or (added xs ys) k 0 ≡ bit_xor (get_or xs k 0) (get_or ys k 0)
 unfolding added
-get_d-added [] ys k h = absurd (omega (arith, h))
-get_d-added (x ∷ xs) [] zero h = sym (xor_zero_r x)
-get_d-added (x ∷ xs) [] (suc k) h = sym (xor_zero_r (get_or xs k 0))
-get_d-added (x ∷ xs) (y ∷ ys) zero h = refl
-get_d-added (x ∷ xs) (y ∷ ys) (suc k) h = get_d-added xs ys k (omega (arith, h))
+get_or-added [] ys k h = absurd (omega (arith, h))
+get_or-added (x ∷ xs) [] zero h = sym (xor_zero_r x)
+get_or-added (x ∷ xs) [] (suc k) h = sym (xor_zero_r (get_or xs k 0))
+get_or-added (x ∷ xs) (y ∷ ys) zero h = refl
+get_or-added (x ∷ xs) (y ∷ ys) (suc k) h = get_or-added xs ys k (omega (arith, h))
 
 -- a byte more is added, where those from i on are as they were
 module _ (l₀ l s : List ℕ) (i : ℕ) (same : drop i l ≡ drop i l₀)
@@ -251,10 +251,10 @@ module _ (l₀ l s : List ℕ) (i : ℕ) (same : drop i l ≡ drop i l₀)
       ext_get_or 0 l (added l₀ s) (size ∙ sym (length-added l₀ s))
       (λ k h.
       elim (dec_le i k) [
-        | no b ↦ made k (omega arith) ∙ sym (get_d-added l₀ s k (omega arith))
+        | no b ↦ made k (omega arith) ∙ sym (get_or-added l₀ s k (omega arith))
         | yes b ↦
             (let none : get_or s k 0 ≡ 0 = get_or-eq_default s 0 (omega arith) in
-            as_it_was k b ∙ sym (get_d-added l₀ s k (omega arith) ∙ ap (bit_xor (get_or l₀ k 0)) none
+            as_it_was k b ∙ sym (get_or-added l₀ s k (omega arith) ∙ ap (bit_xor (get_or l₀ k 0)) none
             ∙ xor_zero_r (get_or l₀ k 0)))
       ])
 
@@ -271,12 +271,12 @@ merged-add p ps h s n =
     let b : get_or (drop k h) p 0 ≡ get_or (drop p h) k 0 =
     get_or-drop k h p 0 ∙ ap (λ (j : ℕ). get_or h j 0) (add_comm k p) ∙ sym (get_or-drop p h k 0) in
     let c = carry ps (drop k h) in
-    get_d-merged (p ∷ ps) n h s k inside
+    get_or-merged (p ∷ ps) n h s k inside
     ∙ ap (λ (x : ℕ). bit_xor (get_or s k 0) (bit_xor x c)) b
     ∙ ap (bit_xor (get_or s k 0)) (xor_comm (get_or (drop p h) k 0) c)
     ∙ sym (xor_assoc (get_or s k 0) c (get_or (drop p h) k 0))
-    ∙ sym (get_d-added m (drop p h) k (omega arith) ∙ ap (λ (x : ℕ). bit_xor x (get_or (drop p h) k 0))
-    (get_d-merged ps n h s k inside)))
+    ∙ sym (get_or-added m (drop p h) k (omega arith) ∙ ap (λ (x : ℕ). bit_xor x (get_or (drop p h) k 0))
+    (get_or-merged ps n h s k inside)))
 
 merged-none : (n : ℕ) (h s : List ℕ) → n ≤ length s → merged [] n h s ≡ take n s
 unfolding carry
@@ -284,7 +284,7 @@ merged-none n h s l =
     ext_get_or 0 (merged [] n h s) (take n s) (length_merged [] n h s ∙ sym (omega (arith, length-take n s)))
     (λ k m.
     let inside : k < n = omega (arith, length_merged [] n h s) in
-    get_d-merged [] n h s k inside ∙ xor_zero_r (get_or s k 0) ∙ sym (get_or-take n s k 0 inside))
+    get_or-merged [] n h s k inside ∙ xor_zero_r (get_or s k 0) ∙ sym (get_or-take n s k 0 inside))
 
 pub merged-far : (w t : List ℕ) → 4032 ≤ length t → added (added (added (take 4032 t) (drop 2091 w)) (drop 1837 w))
     w ≡ merged far 4032 w t
