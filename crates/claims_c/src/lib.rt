@@ -1,1 +1,2 @@
 // The calls of include/hplog.h under the claims: definitions and theorems only.
+#![tactic(auto)]

@@ -1,9 +1,8 @@
 // Every call of the library, in the order of include/hplog.h, each after the types that it takes and gives. A program
 // lists the crates whose types it reaches beside this one.
-
-// A finished log: opening it, and the blocks that a range of times chooses.
 #![tactic(auto)]
 
+// A finished log: opening it, and the blocks that a range of times chooses.
 pub use frame::Frame;
 pub use parts::Epoch;
 pub use query::{Queried, count, query};
