@@ -64,9 +64,7 @@ pub fn clear(filter: &mut [u64])
     ensures { filter.new ≡ cleared filter.old }
 {
     let n = filter.len();
-    let mut i = 0;
-    while i < n {
+    for i in 0..n {
         filter[i] = 0;
-        i += 1;
     }
 }

@@ -30,24 +30,29 @@ pub fn refuse(number: u8, place: u64) -> Answer
     ensures { result ≡ answered (refused number place) }
 {
     Answer {
-        number: number as u64,
+        number: u64::from(number),
         place,
         count: 0,
+    }
+}
+
+impl From<Refusal> for Answer {
+    ghost from_gives = { λ w a. a ≡ answered (refused w.number w.place) };
+
+    fn from(w: Refusal) -> Answer {
+        refuse(w.number, w.place)
     }
 }
 
 pub fn refused(w: Refusal) -> Answer
     ensures { result ≡ answered (refused w.number w.place) }
 {
-    refuse(w.number, w.place)
+    Answer::from(w)
 }
 
 // 1 for what is so, else 0.
 pub fn flag(holds: bool) -> u64
     ensures { result ≡ flag_of holds }
 {
-    if holds {
-        return 1;
-    }
-    0
+    u64::from(holds)
 }

@@ -6,10 +6,9 @@ ghost use Rattle.verdict.specs.Rules.{given};
 ghost use Rattle.c_block.specs.Block.{c_block_of};
 ghost use Rattle.c_block.specs.Header.{no_header, header_answer, header_of, c_header_of};
 
-use access::Located;
 use c_answer::Answer;
 use parts::BlockHeader;
-use verdict::{Checked, Refusal};
+use verdict::Refusal;
 
 // A block by its header: where that stands, and its fields.
 #[repr(C)]
@@ -29,13 +28,7 @@ pub struct BlockAnswer {
 fn is_cut(n: u64, at: u64) -> bool
     ensures { result ≡ ltb n (at + 36) }
 {
-    if n < at {
-        return true;
-    }
-    if n - at < BlockHeader::LEN as u64 {
-        return true;
-    }
-    false
+    n.saturating_sub(at) < BlockHeader::LEN as u64
 }
 
 pub fn hplog_check_block(log: &[u8], at: u64, plain: &[u8], names: u32) -> Answer
@@ -45,25 +38,26 @@ pub fn hplog_check_block(log: &[u8], at: u64, plain: &[u8], names: u32) -> Answe
         return c_answer::refuse(6, at);
     }
     let header = BlockHeader::read(log, at as usize);
-    let v = entries::check_block(plain, header, names);
-    match v {
-        Checked::Broken(w) => c_answer::refused(w),
-        Checked::Sound => c_answer::accepted(header.entries as u64),
+    match entries::check_block(plain, header, names) {
+        Ok(()) => c_answer::accepted(u64::from(header.entries)),
+        Err(w) => Answer::from(w),
     }
 }
 
-fn no_block(w: Refusal) -> BlockAnswer
-    ensures { result ≡ no_header w.number w.place }
-{
-    BlockAnswer {
-        number: w.number as u64,
-        place: w.place,
-        offset: 0,
-        start: 0,
-        end: 0,
-        entries: 0,
-        stored: 0,
-        plain: 0,
+impl From<Refusal> for BlockAnswer {
+    ghost from_gives = { λ w a. a ≡ no_header w.number w.place };
+
+    fn from(w: Refusal) -> BlockAnswer {
+        BlockAnswer {
+            number: u64::from(w.number),
+            place: w.place,
+            offset: 0,
+            start: 0,
+            end: 0,
+            entries: 0,
+            stored: 0,
+            plain: 0,
+        }
     }
 }
 
@@ -77,9 +71,9 @@ fn header_there(log: &[u8], at: u64) -> BlockAnswer
         offset: at,
         start: h.start.0,
         end: h.end.0,
-        entries: h.entries as u64,
-        stored: h.stored as u64,
-        plain: h.plain as u64,
+        entries: u64::from(h.entries),
+        stored: u64::from(h.stored),
+        plain: u64::from(h.plain),
     }
 }
 
@@ -88,7 +82,7 @@ fn header_at(log: &[u8], at: u64) -> BlockAnswer
     ensures { result ≡ header_of log.now at }
 {
     if is_cut(log.len() as u64, at) {
-        return no_block(Refusal {
+        return BlockAnswer::from(Refusal {
             number: 6,
             place: at,
         });
@@ -99,9 +93,8 @@ fn header_at(log: &[u8], at: u64) -> BlockAnswer
 pub fn hplog_block(log: &[u8], rows: &[u8], i: u64) -> BlockAnswer
     ensures { result ≡ c_header_of log.now rows.now i }
 {
-    let l = access::locate(rows, rows::room(rows) as u64, i);
-    match l {
-        Located::Row(row) => header_at(log, row.offset),
-        Located::Refused(w) => no_block(w),
+    match access::locate(rows, rows::room(rows) as u64, i) {
+        Ok(row) => header_at(log, row.offset),
+        Err(w) => BlockAnswer::from(w),
     }
 }

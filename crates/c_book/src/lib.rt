@@ -5,7 +5,7 @@ ghost use Rattle.std.specs.Prelude.{◌≡◌};
 ghost use Rattle.verdict.specs.Rules.{given};
 ghost use Rattle.c_book.specs.Books.{span_answer, c_book_of, c_parts_of, c_part_of};
 
-use book::{Booked, Counted, Span};
+use book::Span;
 use c_answer::Answer;
 
 fn found(p: Span) -> Answer
@@ -21,24 +21,22 @@ fn found(p: Span) -> Answer
 pub fn hplog_book(book: &[u8], blocks: u32) -> Answer
     ensures { result ≡ c_book_of book.now blocks }
 {
-    let b = book::check(book, blocks);
-    match b {
-        Booked::Sound(d) => found(d),
-        Booked::Refused(w) => c_answer::refused(w),
+    match book::check(book, blocks) {
+        Ok(d) => found(d),
+        Err(w) => c_answer::refused(w),
     }
 }
 
 pub fn hplog_book_parts(book: &[u8]) -> Answer
     ensures { result ≡ c_parts_of book.now }
 {
-    let c = book::count(book);
-    match c {
-        Counted::Sound(t) => Answer {
+    match book::count(book) {
+        Ok(t) => Answer {
             number: 0,
             place: t.last as u64,
             count: t.blocks + 1,
         },
-        Counted::Refused(w) => c_answer::refused(w),
+        Err(w) => c_answer::refused(w),
     }
 }
 

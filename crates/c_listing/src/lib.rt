@@ -4,7 +4,6 @@
 ghost use Rattle.c_listing.specs.Answers.{Started, StartedRange, Went};
 
 use c_answer::Answer;
-use contents::Contents;
 use listing_numbers::Listing;
 use listing_places::{Range, State};
 use parts::Epoch;
@@ -19,13 +18,12 @@ pub struct Listed {
 pub fn hplog_list(log: &[u8], book: &[u8]) -> Listed
     ensures { Started log.now book.now result }
 {
-    let c = contents::check(log, book);
-    match c {
-        Contents::Refused(w) => Listed {
+    match contents::check(log, book) {
+        Err(w) => Listed {
             answer: c_answer::refused(w),
             next: listing_numbers::listing_of(State::Refused(w)),
         },
-        Contents::Sound(blocks, entries) => Listed {
+        Ok((blocks, entries)) => Listed {
             answer: c_answer::accepted(entries),
             next: listing_numbers::listing_of(listing_states::start(book, blocks as u32, entries)),
         },
@@ -39,13 +37,12 @@ pub fn hplog_list_range(log: &[u8], book: &[u8], t1: u64, t2: u64) -> Listed
         from: Epoch(t1),
         to: Epoch(t2),
     };
-    let c = listing_input::check_range(log, book, range);
-    match c {
-        Contents::Refused(w) => Listed {
+    match listing_input::check_range(log, book, range) {
+        Err(w) => Listed {
             answer: c_answer::refused(w),
             next: listing_numbers::listing_of(State::Refused(w)),
         },
-        Contents::Sound(blocks, entries) => Listed {
+        Ok((blocks, entries)) => Listed {
             answer: c_answer::accepted(entries),
             next: listing_numbers::listing_of(listing_states::start_range(
                 log,
@@ -60,10 +57,9 @@ pub fn hplog_list_range(log: &[u8], book: &[u8], t1: u64, t2: u64) -> Listed
 pub fn hplog_list_next(log: &[u8], book: &[u8], at: Listing, out: &mut [u8]) -> Listed
     ensures { Went log.now book.now at out.old result out.new }
 {
-    let p = listing_pieces::render(log, book, listing_numbers::state_of(at), out);
-    let next = p.next;
+    let piece = listing_pieces::render(log, book, listing_numbers::state_of(at), out);
     Listed {
-        answer: c_answer::accepted(p.length as u64),
-        next: listing_numbers::listing_of(next),
+        answer: c_answer::accepted(piece.length as u64),
+        next: listing_numbers::listing_of(piece.next),
     }
 }

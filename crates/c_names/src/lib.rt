@@ -6,17 +6,14 @@ ghost use Rattle.verdict.specs.Rules.{given};
 ghost use Rattle.c_names.specs.Names.{span_answer, c_names_of, c_name_of, c_name_at_of, c_number_of};
 
 use c_answer::Answer;
-use lookup::{Located, Span};
-use name_search::Sought;
-use names::Counted;
+use lookup::Span;
 
 pub fn hplog_names(dictionary: &[u8]) -> Answer
     ensures { result ≡ c_names_of dictionary.now }
 {
-    let c = names::check(dictionary);
-    match c {
-        Counted::Names(n) => c_answer::accepted(n as u64),
-        Counted::Refused(w) => c_answer::refused(w),
+    match names::check(dictionary) {
+        Ok(n) => c_answer::accepted(u64::from(n)),
+        Err(w) => c_answer::refused(w),
     }
 }
 
@@ -33,10 +30,9 @@ fn found(p: Span) -> Answer
 pub fn hplog_name(dictionary: &[u8], i: u64) -> Answer
     ensures { result ≡ c_name_of dictionary.now i }
 {
-    let l = lookup::locate(dictionary, i);
-    match l {
-        Located::At(p) => found(p),
-        Located::Refused(w) => c_answer::refused(w),
+    match lookup::locate(dictionary, i) {
+        Ok(p) => found(p),
+        Err(w) => c_answer::refused(w),
     }
 }
 
@@ -49,14 +45,13 @@ pub fn hplog_name_at(dictionary: &[u8], at: u64) -> Answer
 pub fn hplog_number(dictionary: &[u8], name: &[u8]) -> Answer
     ensures { result ≡ c_number_of dictionary.now name.now }
 {
-    let f = name_search::number_of(dictionary, name);
-    match f {
-        Sought::Number(i) => Answer {
+    match name_search::number_of(dictionary, name) {
+        Ok(Some(i)) => Answer {
             number: 0,
             place: 1,
-            count: i as u64,
+            count: u64::from(i),
         },
-        Sought::Missing => c_answer::accepted(0),
-        Sought::Refused(w) => c_answer::refused(w),
+        Ok(None) => c_answer::accepted(0),
+        Err(w) => c_answer::refused(w),
     }
 }

@@ -11,7 +11,6 @@ ghost use Rattle.c_open.specs.Open.{frame_bytes, c_open_of, c_open_rows, c_open_
 
 use c_answer::Answer;
 use frame::Frame;
-use reader::Opened;
 
 const FRAME: usize = 40;
 
@@ -32,10 +31,9 @@ fn open_short(log: &[u8], rows: usize) -> Answer
         result ≡ answered (settle (first_broken (call_rules log₀ rows ++ (flag 12 40 false ∷ [])))
         (frame_of log₀).blocks) }
 {
-    let r = reader::check(log);
-    match r {
-        Opened::Refused(w) => c_answer::refused(w),
-        Opened::Log(f) => {
+    match reader::check(log) {
+        Err(w) => Answer::from(w),
+        Ok(f) => {
             let needed = f.blocks * rows::STRIDE as u64;
             if (rows as u64) < needed {
                 return c_answer::refuse(12, needed);
@@ -56,10 +54,9 @@ pub fn hplog_open(log: &[u8], rows: &mut [u8], frame: &mut [u8]) -> Answer
     if frame.len() < FRAME {
         return open_short(log, rows.len());
     }
-    let r = reader::open(log, rows);
-    match r {
-        Opened::Refused(w) => c_answer::refused(w),
-        Opened::Log(f) => {
+    match reader::open(log, rows) {
+        Err(w) => Answer::from(w),
+        Ok(f) => {
             put_frame(frame, f);
             c_answer::accepted(f.blocks)
         }

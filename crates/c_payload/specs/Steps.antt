@@ -1,4 +1,7 @@
 -- The reading steps at the C edge: "On a refusal all but number and place is 0" (include/hplog.h). Assumes nothing.
+use Rattle.std.specs.Prelude.{Result, Ok, Err}
+use Rattle.cursor.specs.declared.Field.{Field}
+use Rattle.parts.specs.declared.time.Delta.{Delta}
 use Rattle.std.specs.Prelude.{ℕ}
 use Rattle.std.proofs.Common.{of_z}
 use Rattle.std.specs.Int.{w64}
@@ -7,12 +10,6 @@ use Rattle.cursor.specs.Model.{bit_of}
 use Rattle.cursor.specs.declared.values.Value.{Value}
 use Rattle.cursor.specs.declared.values.Value.TheVariants.{Text, Whole, Real, Truth, Null, Json}
 use Rattle.cursor.specs.declared.Cursor.{Cursor}
-use Rattle.cursor.specs.declared.DeltaStep.{DeltaStep}
-use Rattle.cursor.specs.declared.DeltaStep.TheVariants as delta
-use Rattle.cursor.specs.declared.CountStep.{CountStep}
-use Rattle.cursor.specs.declared.CountStep.TheVariants as count
-use Rattle.cursor.specs.declared.FieldStep.{FieldStep}
-use Rattle.cursor.specs.declared.FieldStep.TheVariants as field
 use Rattle.packing.specs.Entry.{kind_code}
 use Rattle.c_payload.specs.declared.Step.{Step}
 use Rattle.c_payload.specs.declared.FieldAnswer.{FieldAnswer}
@@ -26,13 +23,13 @@ stepped value next = record { number = 0; place = 0; value = value; next = next 
 abbrev pub stopped : Refusal → Step
 stopped r = record { number = r.number; place = r.place; value = 0; next = front }
 
-abbrev pub delta_answer : DeltaStep → Step
-delta_answer (delta.Delta d c) = stepped d.0 c
-delta_answer (delta.Refused r) = stopped r
+abbrev pub delta_answer : Result (Delta × Cursor) Refusal → Step
+delta_answer (Ok (d, c)) = stepped d.0 c
+delta_answer (Err r) = stopped r
 
-abbrev pub count_answer : CountStep → Step
-count_answer (count.Count n c) = stepped n c
-count_answer (count.Refused r) = stopped r
+abbrev pub count_answer : Result (ℕ × Cursor) Refusal → Step
+count_answer (Ok (n, c)) = stepped n c
+count_answer (Err r) = stopped r
 
 -- "of 1 the number in two's complement, of 2 the bits of the real, of 3 0 or 1; else 0"
 abbrev pub bits_of : Value → ℕ
@@ -64,8 +61,8 @@ abbrev pub read_field : (id kind bits from length : ℕ) → Cursor → FieldAns
 read_field id kind bits from length next =
     record { number = 0; place = 0; id = id; kind = kind; bits = bits; from = from; length = length; next = next }
 
-abbrev pub field_answer : FieldStep → FieldAnswer
-field_answer (field.Field f c) =
+abbrev pub field_answer : Result (Field × Cursor) Refusal → FieldAnswer
+field_answer (Ok (f, c)) =
     read_field f.id (kind_code f.value) (bits_of f.value) (from_of f.value) (length_of f.value) c
-field_answer (field.Refused r) =
+field_answer (Err r) =
     record { number = r.number; place = r.place; id = 0; kind = 0; bits = 0; from = 0; length = 0; next = front }

@@ -1,12 +1,11 @@
 // The steps that read a block's plain bytes for programs in C (include/hplog.h).
 #![tactic(auto)]
 
-ghost use Rattle.std.specs.Prelude.{◌≡◌};
+ghost use Rattle.std.specs.Prelude.{◌≡◌, Err};
 ghost use Rattle.cursor.specs.Answers.{delta_at, count_at, field_at};
-ghost use Rattle.cursor.specs.declared.FieldStep.TheVariants as field;
 ghost use Rattle.c_payload.specs.Steps.{stepped, stopped, delta_answer, count_answer, read_field, field_answer};
 
-use cursor::{CountStep, Cursor, DeltaStep, Field, FieldStep, Value};
+use cursor::{Cursor, Field, Value};
 use verdict::Refusal;
 
 // A number read, and where the next step begins.
@@ -44,34 +43,51 @@ fn stepped_to(value: u64, next: Cursor) -> Step
     }
 }
 
-fn stopped_by(w: Refusal) -> Step
-    ensures { result ≡ stopped w }
-{
-    Step {
-        number: w.number as u64,
-        place: w.place,
-        value: 0,
-        next: Cursor { at: 0 },
+impl From<Refusal> for Step {
+    ghost from_gives = { λ r s. s ≡ stopped r };
+
+    fn from(r: Refusal) -> Step {
+        Step {
+            number: u64::from(r.number),
+            place: r.place,
+            value: 0,
+            next: Cursor { at: 0 },
+        }
+    }
+}
+
+impl From<Refusal> for FieldAnswer {
+    ghost from_gives = { λ r a. a ≡ field_answer (Err r) };
+
+    fn from(r: Refusal) -> FieldAnswer {
+        FieldAnswer {
+            number: u64::from(r.number),
+            place: r.place,
+            id: 0,
+            kind: 0,
+            bits: 0,
+            from: 0,
+            length: 0,
+            next: Cursor { at: 0 },
+        }
     }
 }
 
 pub fn hplog_delta(payload: &[u8], at: Cursor) -> Step
     ensures { result ≡ delta_answer (delta_at payload.now at.at) }
 {
-    let r = at.delta(payload);
-    match r {
-        DeltaStep::Delta(d, next) => stepped_to(d.0, next),
-        DeltaStep::Refused(w) => stopped_by(w),
+    match at.delta(payload) {
+        Ok((d, next)) => stepped_to(d.0, next),
+        Err(r) => Step::from(r),
     }
 }
 
 pub fn hplog_count(payload: &[u8], at: Cursor) -> Step
     ensures { result ≡ count_answer (count_at payload.now at.at) }
 {
-    let r = at.count(payload);
-    match r {
-        CountStep::Count(n, next) => stepped_to(n as u64, next),
-        CountStep::Refused(w) => stopped_by(w),
+    match at.count(payload) {
+        Ok((n, next)) => stepped_to(u64::from(n), next),
+        Err(r) => Step::from(r),
     }
 }
 
@@ -81,8 +97,8 @@ fn field_of(id: u16, kind: u8, bits: u64, from: usize, length: usize, next: Curs
     FieldAnswer {
         number: 0,
         place: 0,
-        id: id as u64,
-        kind: kind as u64,
+        id: u64::from(id),
+        kind: u64::from(kind),
         bits,
         from: from as u64,
         length: length as u64,
@@ -91,14 +107,13 @@ fn field_of(id: u16, kind: u8, bits: u64, from: usize, length: usize, next: Curs
 }
 
 fn field_read(f: Field, next: Cursor) -> FieldAnswer
-    ensures { result ≡ field_answer (field.Field f next) }
+    ensures { result ≡ field_answer (Ok (f, next)) }
 {
-    let v = f.value;
-    match v {
+    match f.value {
         Value::Text(from, n) => field_of(f.id, 0, 0, from, n, next),
-        Value::Whole(z) => field_of(f.id, 1, packing::unsigned(z), 0, 0, next),
+        Value::Whole(z) => field_of(f.id, 1, z.cast_unsigned(), 0, 0, next),
         Value::Real(_, bits) => field_of(f.id, 2, bits, 0, 0, next),
-        Value::Truth(b) => field_of(f.id, 3, b as u64, 0, 0, next),
+        Value::Truth(b) => field_of(f.id, 3, u64::from(b), 0, 0, next),
         Value::Null => field_of(f.id, 4, 0, 0, 0, next),
         Value::Json(from, n) => field_of(f.id, 5, 0, from, n, next),
     }
@@ -107,18 +122,8 @@ fn field_read(f: Field, next: Cursor) -> FieldAnswer
 pub fn hplog_field(payload: &[u8], names: u32, at: Cursor) -> FieldAnswer
     ensures { result ≡ field_answer (field_at payload.now names at.at) }
 {
-    let r = at.field(payload, names);
-    match r {
-        FieldStep::Field(f, next) => field_read(f, next),
-        FieldStep::Refused(w) => FieldAnswer {
-            number: w.number as u64,
-            place: w.place,
-            id: 0,
-            kind: 0,
-            bits: 0,
-            from: 0,
-            length: 0,
-            next: Cursor { at: 0 },
-        },
+    match at.field(payload, names) {
+        Ok((f, next)) => field_read(f, next),
+        Err(r) => FieldAnswer::from(r),
     }
 }

@@ -10,9 +10,7 @@ ghost use Rattle.c_query.specs.Query.{c_rows, numbers_bytes, c_query_of, c_query
 ghost use Rattle.c_query.specs.Label.{c_label_of};
 
 use c_answer::Answer;
-use label::Labelled;
 use parts::Epoch;
-use query::Queried;
 use rows::Row;
 
 // The number i where its row is listed, as four bytes at an offset; the offset behind it.
@@ -42,13 +40,11 @@ fn put_numbers(out: &mut [u8], rows: &[u8], from: Epoch, to: Epoch)
 {
     let count = rows::room(rows);
     let mut at = 0;
-    let mut i = 0;
-    while i < count {
+    for i in 0..count {
         let start = i * rows::STRIDE;
         let end = start + rows::STRIDE;
         let row = rows::row_at(&rows[start..end], 0);
         at = put_number(out, at, i as u32, row, from, to);
-        i += 1;
     }
 }
 
@@ -65,27 +61,24 @@ pub fn hplog_query(rows: &[u8], t1: u64, t2: u64, numbers: &mut [u8]) -> Answer
     if n % rows::STRIDE != 0 {
         return c_answer::refuse(6, n as u64);
     }
-    let r = query::count(rows, Epoch(t1), Epoch(t2));
-    match r {
-        Queried::Refused(w) => c_answer::refused(w),
-        Queried::Listed(k) => {
-            let needed = 4 * k as usize;
-            if numbers.len() < needed {
-                return c_answer::refuse(12, needed as u64);
-            }
-            put_numbers(numbers, rows, Epoch(t1), Epoch(t2));
-            c_answer::accepted(k as u64)
-        }
+    let k = match query::count(rows, Epoch(t1), Epoch(t2)) {
+        Ok(k) => k,
+        Err(w) => return c_answer::refused(w),
+    };
+    let needed = 4 * k as usize;
+    if numbers.len() < needed {
+        return c_answer::refuse(12, needed as u64);
     }
+    put_numbers(numbers, rows, Epoch(t1), Epoch(t2));
+    c_answer::accepted(u64::from(k))
 }
 
 pub fn hplog_label(name: &[u8], panel: &mut [u8]) -> Answer
     ensures { (result ≡ c_label_of name.now (length panel.old))
         × (panel.new ≡ label_out name.now panel.old) }
 {
-    let r = label::label(name, panel);
-    match r {
-        Labelled::Refused(w) => c_answer::refused(w),
-        Labelled::Written(shortened) => c_answer::accepted(c_answer::flag(shortened)),
+    match label::label(name, panel) {
+        Err(w) => c_answer::refused(w),
+        Ok(shortened) => c_answer::accepted(c_answer::flag(shortened)),
     }
 }

@@ -14,35 +14,30 @@ ghost use Rattle.c_recovery.specs.Recover.{c_recover_of, c_recover_rows, c_recov
 ghost use Rattle.c_recovery.specs.Repair.{c_repair_of};
 
 use c_answer::Answer;
-use recovery::{Recovered, Report};
-use repair::Repaired;
-use verdict::{Checked, Refusal};
+use recovery::Report;
+use verdict::Refusal;
 
 const REPORT: usize = 32;
 
 // The number and the place of what stopped a scan, both 0 for a clean end.
-fn stop_of(stop: Checked) -> Refusal
+fn stop_of(stop: Result<(), Refusal>) -> Refusal
     ensures { (result.number ≡ stop_number (verdict_of stop)) × (result.place ≡ stop_place (verdict_of stop)) }
 {
-    match stop {
-        Checked::Sound => Refusal {
-            number: 0,
-            place: 0,
-        },
-        Checked::Broken(w) => w,
-    }
+    stop.err().unwrap_or(Refusal {
+        number: 0,
+        place: 0,
+    })
 }
 
 fn put_report(out: &mut [u8], report: Report)
     ensures { let out₀ = out.old in
         out.new ≡ splice out₀ 0 (report_bytes report.end (verdict_of report.stop) report.whole) }
 {
-    let stop = report.stop;
-    let w = stop_of(stop);
+    let w = stop_of(report.stop);
     wire::put_u64(out, 0, report.end);
-    wire::put_u64(out, 8, w.number as u64);
+    wire::put_u64(out, 8, u64::from(w.number));
     wire::put_u64(out, 16, w.place);
-    wire::put_u64(out, 24, c_answer::flag(report.whole));
+    wire::put_u64(out, 24, u64::from(report.whole));
 }
 
 // What recovery answers where the report has no room: what is wrong with the header and with the room of the rows comes
@@ -53,10 +48,9 @@ fn recover_short(log: &[u8], rows: usize) -> Answer
         ≡ answered
         (settle (first_broken (call_rules log₀ rows ++ (flag 12 32 false ∷ []))) (length (report_of log₀).rows)) }
 {
-    let r = recovery::survey(log);
-    match r {
-        Recovered::Refused(w) => c_answer::refused(w),
-        Recovered::Found(report) => {
+    match recovery::survey(log) {
+        Err(w) => Answer::from(w),
+        Ok(report) => {
             let needed = report.blocks as u64 * rows::STRIDE as u64;
             if (rows as u64) < needed {
                 return c_answer::refuse(12, needed);
@@ -77,10 +71,9 @@ pub fn hplog_recover(log: &[u8], rows: &mut [u8], report: &mut [u8]) -> Answer
     if report.len() < REPORT {
         return recover_short(log, rows.len());
     }
-    let r = recovery::recover(log, rows);
-    match r {
-        Recovered::Refused(w) => c_answer::refused(w),
-        Recovered::Found(found) => {
+    match recovery::recover(log, rows) {
+        Err(w) => Answer::from(w),
+        Ok(found) => {
             put_report(report, found);
             c_answer::accepted(found.blocks as u64)
         }
@@ -94,9 +87,8 @@ pub fn hplog_repair(log: &[u8], dictionary: &[u8], out: &mut [u8]) -> Answer
         (result ≡ c_repair_of log₀ dictionary₀ (length out₀))
         × (out.new ≡ repair_out log₀ dictionary₀ out₀) }
 {
-    let r = repair::repair(log, dictionary, out);
-    match r {
-        Repaired::Refused(w) => c_answer::refused(w),
-        Repaired::Done(k) => c_answer::accepted(k.length),
+    match repair::repair(log, dictionary, out) {
+        Err(w) => Answer::from(w),
+        Ok(k) => c_answer::accepted(k.length),
     }
 }

@@ -5,7 +5,7 @@ ghost use Rattle.std.specs.Prelude.{◌≡◌};
 ghost use Rattle.verdict.specs.Rules.{given};
 ghost use Rattle.c_stored.specs.Stored.{span_answer, c_stored_of, c_dictionary_of};
 
-use access::{Located, Span};
+use access::Span;
 use c_answer::Answer;
 
 fn found(p: Span) -> Answer
@@ -21,10 +21,9 @@ fn found(p: Span) -> Answer
 pub fn hplog_stored(log: &[u8], rows: &[u8], i: u64) -> Answer
     ensures { result ≡ c_stored_of log.now rows.now i }
 {
-    let l = access::locate(rows, rows::room(rows) as u64, i);
-    match l {
-        Located::Row(row) => found(access::stored_span(log, row)),
-        Located::Refused(w) => c_answer::refused(w),
+    match access::locate(rows, rows::room(rows) as u64, i) {
+        Ok(row) => found(access::stored_span(log, row)),
+        Err(w) => Answer::from(w),
     }
 }
 

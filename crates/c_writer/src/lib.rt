@@ -16,9 +16,7 @@ ghost use Rattle.c_writer.specs.Answers.{went, stayed, storing, naming, entering
 use c_answer::Answer;
 use parts::Epoch;
 use verdict::Refusal;
-use writer::{Pending, Stored, Turn, Writer};
-use writer_entries::Entered;
-use writer_names::Named;
+use writer::{Pending, Turn, Writer};
 
 // A writer in numbers alone.
 #[repr(C)]
@@ -63,40 +61,43 @@ fn number_of(t: Turn) -> u32
     }
 }
 
-fn writer_in(s: State) -> Writer
-    ensures { result ≡ writer_in s }
-{
-    Writer {
-        turn: turn_for(s.turn),
-        blocks: s.blocks,
-        length: s.length,
-        end: Epoch(s.end),
-        given: s.given,
-        names: s.names,
-        dictionary: s.dictionary,
-        pending: Pending {
-            start: Epoch(s.start),
-            last: Epoch(s.last),
-            plain: s.plain,
-        },
+impl From<State> for Writer {
+    ghost from_gives = { λ s w. w ≡ writer_in s };
+
+    fn from(s: State) -> Writer {
+        Writer {
+            turn: turn_for(s.turn),
+            blocks: s.blocks,
+            length: s.length,
+            end: Epoch(s.end),
+            given: s.given,
+            names: s.names,
+            dictionary: s.dictionary,
+            pending: Pending {
+                start: Epoch(s.start),
+                last: Epoch(s.last),
+                plain: s.plain,
+            },
+        }
     }
 }
 
-fn state_of(w: Writer) -> State
-    ensures { result ≡ state_of w }
-{
-    let turn = w.turn;
-    State {
-        length: w.length,
-        end: w.end.0,
-        dictionary: w.dictionary,
-        start: w.pending.start.0,
-        last: w.pending.last.0,
-        plain: w.pending.plain,
-        blocks: w.blocks,
-        given: w.given,
-        names: w.names,
-        turn: number_of(turn),
+impl From<Writer> for State {
+    ghost from_gives = { λ w s. s ≡ state_of w };
+
+    fn from(w: Writer) -> State {
+        State {
+            length: w.length,
+            end: w.end.0,
+            dictionary: w.dictionary,
+            start: w.pending.start.0,
+            last: w.pending.last.0,
+            plain: w.pending.plain,
+            blocks: w.blocks,
+            given: w.given,
+            names: w.names,
+            turn: number_of(w.turn),
+        }
     }
 }
 
@@ -106,33 +107,33 @@ fn behind(w: Writer, count: u64) -> Written
 {
     Written {
         answer: c_answer::accepted(count),
-        next: state_of(w),
+        next: State::from(w),
     }
 }
 
 // Behind one that was refused.
-fn unchanged(s: State, w: Refusal) -> Written
-    ensures { result ≡ stayed s w.number w.place }
+fn unchanged(s: State, r: Refusal) -> Written
+    ensures { result ≡ stayed s r.number r.place }
 {
     Written {
-        answer: c_answer::refused(w),
+        answer: c_answer::refused(r),
         next: s,
     }
 }
 
-fn stored_by(s: State, r: Stored) -> Written
+fn stored_by(s: State, r: Result<(Writer, u64), Refusal>) -> Written
     ensures { result ≡ storing s (stored_of r) }
 {
     match r {
-        Stored::Done(w, n) => behind(w, n),
-        Stored::Refused(w) => unchanged(s, w),
+        Ok((w, n)) => behind(w, n),
+        Err(r) => unchanged(s, r),
     }
 }
 
 pub fn hplog_writer_new() -> State
     ensures { result ≡ state_of new_writer }
 {
-    state_of(Writer::new())
+    State::from(Writer::new())
 }
 
 pub fn hplog_begin(state: State, out: &mut [u8]) -> Written
@@ -140,9 +141,7 @@ pub fn hplog_begin(state: State, out: &mut [u8]) -> Written
         let before = out.old in
         (result ≡ storing state (begin_of w (length before))) × (out.new ≡ begin_out w before) }
 {
-    let w = writer_in(state);
-    let r = w.begin(out);
-    stored_by(state, r)
+    stored_by(state, Writer::from(state).begin(out))
 }
 
 pub fn hplog_add_name(state: State, dictionary: &mut [u8], name: &[u8]) -> Written
@@ -151,11 +150,9 @@ pub fn hplog_add_name(state: State, dictionary: &mut [u8], name: &[u8]) -> Writt
         let text = name.now in
         (result ≡ naming state (name_of w before text)) × (dictionary.new ≡ name_out w before text) }
 {
-    let w = writer_in(state);
-    let r = writer_names::add_name(w, dictionary, name);
-    match r {
-        Named::Number(next, i) => behind(next, i as u64),
-        Named::Refused(e) => unchanged(state, e),
+    match writer_names::add_name(Writer::from(state), dictionary, name) {
+        Ok((next, i)) => behind(next, u64::from(i)),
+        Err(r) => unchanged(state, r),
     }
 }
 
@@ -177,11 +174,9 @@ pub fn hplog_add_entry(
         let before = payload.old in
         payload.new ≡ entry_out w (record { 0 = time }) bytes (records_in records) (fields_of records) before }
 {
-    let w = writer_in(state);
-    let r = writer_entries::add_entry(w, payload, Epoch(time), fields, text);
-    match r {
-        Entered::Done(next) => behind(next, 0),
-        Entered::Refused(e) => unchanged(state, e),
+    match writer_entries::add_entry(Writer::from(state), payload, Epoch(time), fields, text) {
+        Ok(next) => behind(next, 0),
+        Err(r) => unchanged(state, r),
     }
 }
 
@@ -202,9 +197,11 @@ pub fn hplog_add_block(
         × (rows.new ≡ rows_out w a table (length before))
         × (out.new ≡ block_out w a (length table) before) }
 {
-    let w = writer_in(state);
-    let r = writer_blocks::add_block(w, rows, out, Epoch(start), plain, stored, names);
-    stored_by(state, r)
+    let w = Writer::from(state);
+    stored_by(
+        state,
+        writer_blocks::add_block(w, rows, out, Epoch(start), plain, stored, names),
+    )
 }
 
 pub fn hplog_close(
@@ -222,7 +219,6 @@ pub fn hplog_close(
         (result ≡ storing state (close_of w table names dictionary (length before)))
         × (out.new ≡ close_out w table names dictionary before) }
 {
-    let w = writer_in(state);
-    let r = writer_close::close(w, rows, out, plain, stored);
-    stored_by(state, r)
+    let w = Writer::from(state);
+    stored_by(state, writer_close::close(w, rows, out, plain, stored))
 }

@@ -1,4 +1,5 @@
 -- Lookup finds the names of a dictionary that is accepted, and those that calls built. Assumes nothing.
+use Rattle.std.specs.Prelude.{Some, None}
 use mathlib.Core.Path.{◌≡◌, refl, sym, ap, ◌∙◌}
 use mathlib.Core.List.{List, [], ◌∷◌}
 use Prim.Native.Nat.{ℕ, zero, suc, ◌+◌, ◌-◌, ◌≤◌, ◌<◌}
@@ -13,7 +14,7 @@ use Rattle.names.specs.Dictionary.{place_of, name_at, next_at, name_of, dictiona
 use Rattle.names.proofs.Places.{next-is, name-is, name-part, place-next}
 use Rattle.names.proofs.Accepted.{accepted, distinct}
 use Rattle.lookup.specs.Lookup.{span_of}
-use Rattle.lookup.proofs.Laws.{such, no_such, name-there, span-name}
+use Rattle.lookup.proofs.Laws.{such, no_such, name-there, name-handed, span-name}
 use Rattle.name_search.specs.Search.{Found, numbered, missing, seek_from, seek_of}
 use Rattle.name_search.proofs.Laws.{sought-found}
 use Rattle.claims.specs.Calls.{Writing}
@@ -48,8 +49,10 @@ module _ (s : List ℕ) (n : ℕ) (e : dictionary_of s ≡ given n) where
         located = λ i l. sym (such s i (span_of s i) (sym e) l refl);
         by_number = λ i l.
             sym (name-there s i (span_of s i) (such s i (span_of s i) (sym e) l refl) (sym (span-name s i (span_of s i) refl)));
-        by_name = λ i l. sym (sought-found s (name_of s i) (numbered i) (sym e) (sym (found-own i l (seek_from n s 0 (name_of s i)) refl)));
-        unknown = λ x d. sym (sought-found s x missing (sym e) (sym (found_none x d (seek_from n s 0 x) refl)));
+        handed = λ i l.
+            sym (name-handed s i (span_of s i) (such s i (span_of s i) (sym e) l refl) (sym (span-name s i (span_of s i) refl)));
+        by_name = λ i l. sym (sought-found s (name_of s i) (Some i) (sym e) (sym (found-own i l (seek_from n s 0 (name_of s i)) refl)));
+        unknown = λ x d. sym (sought-found s x None (sym e) (sym (found_none x d (seek_from n s 0 x) refl)));
         past = λ i l. sym (no_such s i (sym e) l);
       }
 
@@ -61,6 +64,7 @@ looks-up-as s n m name e q f =
     record {
       located = λ i l. u.located i (omega arith);
       by_number = λ i l. u.by_number i (omega arith) ∙ f i (omega arith);
+      handed = λ i l. u.handed i (omega arith) ∙ ap given (f i (omega arith));
       by_name = λ i l. ap (seek_of s) (sym (f i (omega arith))) ∙ u.by_name i (omega arith);
       unknown = λ x d. u.unknown x (λ i l t. d i (omega arith) (sym (f i l) ∙ t));
       past = λ i l. u.past i (omega arith);

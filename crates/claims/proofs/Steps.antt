@@ -1,4 +1,5 @@
 -- The steps find the entries that the definition of reading gives. Assumes nothing.
+use Rattle.std.specs.Prelude.{Err}
 use mathlib.Core.Path.{◌≡◌, refl, sym, ap, subst, ◌∙◌}
 use mathlib.Core.Bool.{Bool, true, false, cond}
 use mathlib.Core.List.{List, [], ◌∷◌}
@@ -15,7 +16,6 @@ use Rattle.cursor.specs.Step.{Step, step, refuse}
 use Rattle.cursor.specs.Model as model
 use Rattle.cursor.specs.Reading.{read_delta, delta_rules}
 use Rattle.cursor.specs.Answers.{refusal, delta_at, as_delta, val_in}
-use Rattle.cursor.specs.declared.DeltaStep.TheVariants as dt
 use Rattle.entries.specs.Model.{Entry}
 use Rattle.entries.specs.Reading.{read_fields, entries_from, entries_of}
 use Rattle.entries.proofs.Walk.{FieldWalk, walk_field, EntryWalk, walk-entry}
@@ -43,7 +43,7 @@ none_left : (r : List ℕ) → length r ≤ 0 → r ≡ []
 none_left [] h = refl
 none_left (x ∷ r) h = absurd (omega arith)
 
-end-refuses : (s : List ℕ) (at : ℕ) → length s ≤ at → delta_at s at ≡ dt.Refused (refusal 11 (length s))
+end-refuses : (s : List ℕ) (at : ℕ) → length s ≤ at → delta_at s at ≡ Err (refusal 11 (length s))
 unfolding delta_at as_delta read_delta delta_rules first_broken holds number_of place_of decode decode_in
 end-refuses s at h = rw (none_left (drop at s) (omega (arith, length-drop at s)))
 

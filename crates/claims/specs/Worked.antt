@@ -1,5 +1,6 @@
 -- Document 01, "Worked at the edges": the small file, and K1 to K9 as one table, each about the definition that the
 -- contract of its call cites. Assumes nothing.
+use Rattle.std.specs.Prelude.{Ok, Err}
 use Rattle.std.specs.Prelude.{◌≡◌, Bool, true, false, List, [], ◌∷◌, ◌++◌, ℕ, zero, suc, ◌+◌, negsuc, length, take}
 use Rattle.std.specs.Prelude.{replicate}
 use Rattle.verdict.specs.Rules.{Verdict, sound, broken, Outcome, given}
@@ -9,8 +10,6 @@ use Rattle.parts.specs.declared.time.Epoch.{Epoch}
 use Rattle.parts.specs.Time.{belongs_to}
 use Rattle.rows.specs.Rows.{table_bytes}
 use Rattle.cursor.specs.declared.values.Value.TheVariants.{Whole}
-use Rattle.cursor.specs.declared.DeltaStep.TheVariants as delta
-use Rattle.cursor.specs.declared.FieldStep.TheVariants as field
 use Rattle.cursor.specs.Answers.{refusal, delta_at, field_at}
 use Rattle.query.specs.Query.{query_of, query_out}
 use Rattle.label.specs.Label.{label_of, label_out}
@@ -143,14 +142,14 @@ pub record Worked : Type 0 where
   pub opens : open_of small_file 32 ≡ given small_frame
   pub size : length small_file ≡ 176
   -- "varint AC 02: 300"
-  pub k1 : delta_at (0xAC ∷ 0x02 ∷ []) 0 ≡ delta.Delta (record { 0 = 300 }) (record { at = 2 })
+  pub k1 : delta_at (0xAC ∷ 0x02 ∷ []) 0 ≡ Ok (record { 0 = 300 }, record { at = 2 })
   -- "nine FF, then 01: 18446744073709551615"
   pub k2 : delta_at (replicate 9 0xFF ++ (1 ∷ [])) 0
-      ≡ delta.Delta (record { 0 = 18446744073709551615 }) (record { at = 10 })
+      ≡ Ok (record { 0 = 18446744073709551615 }, record { at = 10 })
   -- "nine FF, then 02: 11"
-  pub k3 : delta_at (replicate 9 0xFF ++ (2 ∷ [])) 0 ≡ delta.Refused (refusal 11 0)
+  pub k3 : delta_at (replicate 9 0xFF ++ (2 ∷ [])) 0 ≡ Err (refusal 11 0)
   -- "the value field at payload byte 2: -42"
-  pub k4 : field_at small_plain 2 2 ≡ field.Field (record { id = 1; value = Whole (negsuc 41) }) (record { at = 14 })
+  pub k4 : field_at small_plain 2 2 ≡ Ok (record { id = 1; value = Whole (negsuc 41) }, record { at = 14 })
   -- "range 0 to 999 / 0 to 1000: none / block 0"
   pub k5 : Chooses 0 999 0 (7 ∷ 8 ∷ []) × Chooses 0 1000 1 (0 ∷ 8 ∷ [])
   -- "range 1006 to 2000 / 1005 to 2000: none / block 0"

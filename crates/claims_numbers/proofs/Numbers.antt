@@ -1,4 +1,8 @@
 -- Every refusal has a number of the table: the rules of files, rows, the writer and the listing, and the C edge. Assumes nothing.
+use Rattle.std.specs.Prelude.{Result, Ok, Err}
+use Rattle.cursor.specs.declared.Cursor.{Cursor}
+use Rattle.parts.specs.declared.time.Delta.{Delta}
+use Rattle.verdict.specs.declared.Refusal.{Refusal}
 use mathlib.Core.Path.{◌≡◌, refl}
 use mathlib.Core.Bool.{Bool, true, false, cond}
 use mathlib.Core.List.{List, [], ◌∷◌}
@@ -13,12 +17,6 @@ use Rattle.parts.specs.Parts.{header_of}
 use Rattle.parts.specs.Rules.{header_rules}
 use Rattle.blocks.specs.Blocks as blocks
 use Rattle.cursor.specs.declared.Field.{Field}
-use Rattle.cursor.specs.declared.DeltaStep.{DeltaStep}
-use Rattle.cursor.specs.declared.DeltaStep.TheVariants as dt
-use Rattle.cursor.specs.declared.CountStep.{CountStep}
-use Rattle.cursor.specs.declared.CountStep.TheVariants as ct
-use Rattle.cursor.specs.declared.FieldStep.{FieldStep}
-use Rattle.cursor.specs.declared.FieldStep.TheVariants as ft
 use Rattle.cursor.specs.Answers.{delta_at, count_at, field_at}
 use Rattle.entries.specs.Reading.{entries_of}
 use Rattle.entries.specs.Block.{block_verdict}
@@ -309,17 +307,17 @@ stop-returns : (v : Verdict) → Listed v → Returns v (stop_number v)
 stop-returns sound h = refl
 stop-returns (broken n p) h = (refl, h)
 
-delta-returns : (k : DeltaStep) → Listed (delta_verdict k) → Returns (delta_verdict k) (delta_answer k).number
-delta-returns (dt.Delta d c) h = refl
-delta-returns (dt.Refused r) h = (refl, h)
+delta-returns : (k : (Result (Delta × Cursor) Refusal)) → Listed (delta_verdict k) → Returns (delta_verdict k) (delta_answer k).number
+delta-returns (Ok (d, c)) h = refl
+delta-returns (Err r) h = (refl, h)
 
-count-returns : (k : CountStep) → Listed (count_verdict k) → Returns (count_verdict k) (count_answer k).number
-count-returns (ct.Count n c) h = refl
-count-returns (ct.Refused r) h = (refl, h)
+count-returns : (k : (Result (ℕ × Cursor) Refusal)) → Listed (count_verdict k) → Returns (count_verdict k) (count_answer k).number
+count-returns (Ok (n, c)) h = refl
+count-returns (Err r) h = (refl, h)
 
-field-returns : (k : FieldStep) → Listed (field_verdict k) → Returns (field_verdict k) (field_answer k).number
-field-returns (ft.Field f c) h = refl
-field-returns (ft.Refused r) h = (refl, h)
+field-returns : (k : (Result (Field × Cursor) Refusal)) → Listed (field_verdict k) → Returns (field_verdict k) (field_answer k).number
+field-returns (Ok (f, c)) h = refl
+field-returns (Err r) h = (refl, h)
 
 storing-returns : (s : State) (o : Outcome Step) → Listed (verdict_in o) → Returns (verdict_in o) (edge.storing s o).answer.number
 storing-returns s (given k) h = refl

@@ -2,6 +2,10 @@
 -- the C edge says that the call was accepted. The verdicts are those that the promises of the calls cite; a call whose
 -- refusals are another's by its definition isn't named again, and one that only puts a number that it was given into an
 -- answer refuses nothing. Assumes nothing.
+use Rattle.std.specs.Prelude.{Result, Ok, Err}
+use Rattle.cursor.specs.declared.Cursor.{Cursor}
+use Rattle.parts.specs.declared.time.Delta.{Delta}
+use Rattle.verdict.specs.declared.Refusal.{Refusal}
 use Rattle.std.specs.Prelude.{◌≡◌, Bool, true, ◌&&◌, List, ℕ, ◌/◌, leb, length}
 use Rattle.verdict.specs.Rules.{Verdict, sound, broken, first_broken, verdict_in}
 use Rattle.crc32.specs.Crc.{crc32}
@@ -11,15 +15,7 @@ use Rattle.parts.specs.declared.time.Epoch.{Epoch}
 use Rattle.parts.specs.Rules.{header_rules}
 use Rattle.blocks.specs.Blocks as blocks
 use Rattle.cursor.specs.declared.Field.{Field}
-use Rattle.cursor.specs.declared.DeltaStep.{DeltaStep}
-use Rattle.cursor.specs.declared.DeltaStep.TheVariants as dt
-use Rattle.cursor.specs.declared.CountStep.{CountStep}
-use Rattle.cursor.specs.declared.CountStep.TheVariants as ct
-use Rattle.cursor.specs.declared.FieldStep.{FieldStep}
-use Rattle.cursor.specs.declared.FieldStep.TheVariants as ft
 use Rattle.cursor.specs.Answers.{refusal, delta_at, count_at, field_at}
-use Rattle.entries.specs.declared.EntryStep.{EntryStep}
-use Rattle.entries.specs.declared.EntryStep.TheVariants as et
 use Rattle.entries.specs.Reading.{entries_of}
 use Rattle.entries.specs.Answers.{rest_at}
 use Rattle.entries.specs.Block.{block_verdict}
@@ -81,21 +77,21 @@ Returns sound k = k ≡ 0
 Returns (broken n p) k = (k ≡ n) × (in_table k ≡ true)
 
 -- what the answer of a reading step says of the rules
-abbrev pub delta_verdict : DeltaStep → Verdict
-delta_verdict (dt.Delta d c) = sound
-delta_verdict (dt.Refused r) = broken r.number r.place
+abbrev pub delta_verdict : Result (Delta × Cursor) Refusal → Verdict
+delta_verdict (Ok (d, c)) = sound
+delta_verdict (Err r) = broken r.number r.place
 
-abbrev pub count_verdict : CountStep → Verdict
-count_verdict (ct.Count k c) = sound
-count_verdict (ct.Refused r) = broken r.number r.place
+abbrev pub count_verdict : Result (ℕ × Cursor) Refusal → Verdict
+count_verdict (Ok (k, c)) = sound
+count_verdict (Err r) = broken r.number r.place
 
-abbrev pub field_verdict : FieldStep → Verdict
-field_verdict (ft.Field f c) = sound
-field_verdict (ft.Refused r) = broken r.number r.place
+abbrev pub field_verdict : Result (Field × Cursor) Refusal → Verdict
+field_verdict (Ok (f, c)) = sound
+field_verdict (Err r) = broken r.number r.place
 
-abbrev pub entry_verdict : EntryStep → Verdict
-entry_verdict (et.Entry t c) = sound
-entry_verdict (et.Refused r) = broken r.number r.place
+abbrev pub entry_verdict : Result (Epoch × Cursor) Refusal → Verdict
+entry_verdict (Ok (t, c)) = sound
+entry_verdict (Err r) = broken r.number r.place
 
 pub record TableNumbers : Type 0 where
   -- parts of a file: its header, a block by whichever checksum, what stops a scan over blocks, the dictionary at a

@@ -47,10 +47,8 @@ fn fold_first(ring: &mut [u8], i: usize, s: &[u8], at: usize)
         let all = folded far (1927 - i) (from i ring.old) (drop at s.now) in
         (length w ≡ 4018) × (from (i + (1927 - i)) w ≡ all) }
 {
-    let mut k = i;
-    while k < 1927 {
+    for k in i..1927 {
         ring[k] = s[at + (k - i)] ^ (ring[k] ^ (ring[k + 1837] ^ ring[k + 2091]));
-        k += 1;
     }
 }
 
@@ -60,10 +58,8 @@ fn fold_second(ring: &mut [u8], i: usize, s: &[u8], at: usize)
         let all = folded far (2181 - i) (from i ring.old) (drop at s.now) in
         (length w ≡ 4018) × (from (i + (2181 - i)) w ≡ all) }
 {
-    let mut k = i;
-    while k < 2181 {
+    for k in i..2181 {
         ring[k] = s[at + (k - i)] ^ (ring[k] ^ (ring[k + 1837] ^ ring[k - 1927]));
-        k += 1;
     }
 }
 
@@ -73,10 +69,8 @@ fn fold_third(ring: &mut [u8], i: usize, s: &[u8], at: usize)
         let all = folded far (4018 - i) (from i ring.old) (drop at s.now) in
         (length w ≡ 4018) × (from (i + (4018 - i)) w ≡ all) }
 {
-    let mut k = i;
-    while k < 4018 {
+    for k in i..4018 {
         ring[k] = s[at + (k - i)] ^ (ring[k] ^ (ring[k - 2181] ^ ring[k - 1927]));
-        k += 1;
     }
 }
 
@@ -98,10 +92,8 @@ fn add(out: &mut [u8], s: &[u8])
     ensures { out.new ≡ added out.old s.now }
 {
     let n = least(out.len(), s.len());
-    let mut i = 0;
-    while i < n {
+    for i in 0..n {
         out[i] = out[i] ^ s[i];
-        i += 1;
     }
 }
 

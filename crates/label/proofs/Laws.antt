@@ -6,61 +6,52 @@ use Prim.Native.Nat.{ℕ, zero, suc, ◌+◌, ◌-◌, ◌≤◌, ◌<◌}
 use native.Mathlib.Nat.{sub-zero, zero-sub, suc-sub-suc}
 use native.Mathlib.Omega.{arith}
 use native.Mathlib.Numerals.{add-one}
-use lib.ListN.{length, get_or, take, drop, replicate, drop_of_length-le, length-take, length-drop, length-append, length-replicate}
-use lib.Seq.{drop-cons, take_all}
-use borrow.Author.Tests.{le-leb, lt-leb, lt-ltb, le-ltb}
+use lib.ListN.{length, take, drop, replicate, length-take, length-drop, length-append, length-replicate}
+use lib.Seq.{take_all}
+use borrow.Author.Tests.{lt-ltb, le-ltb}
 use Rattle.wire.specs.Wire.{le, splice}
 use Rattle.wire.proofs.Splices.{splice-join}
-use Rattle.verdict.specs.Rules.{at_least, sound, broken, first_broken, given, refused}
+use Rattle.std.specs.Prelude.{Option, Some, None, cond, not}
+use Rattle.std.specs.List.{position_from}
+use Rattle.verdict.specs.Rules.{Verdict, flag, at_least, sound, broken, first_broken, given, refused}
 use Rattle.verdict.proofs.Laws.{flag-holds, flag-breaks, least-holds, least-breaks, then-sound, then-broken}
 use Rattle.label.specs.Label.{printable, print_rules, label_rules, shortened, label_of, padded, abridged, label_bytes, label_out}
-use Rattle.label.specs.Inner.{Printable}
 
 -- ---- printable bytes
 
-pub below : (b : ℕ) → b < 0x20 → printable b ≡ false
-unfolding printable
-below b h = rw (lt-leb 0x20 b h)
+-- what the first byte that isn't printable says of the rules
+abbrev first_of : Option ℕ → Verdict
+first_of None = sound
+first_of (Some p) = broken 15 p
 
-pub above : (b : ℕ) → 0x20 ≤ b → 0x7E < b → printable b ≡ false
-unfolding printable
-above b l h = rw (le-leb 0x20 b l, lt-leb b 0x7E h)
-
-pub among : (b : ℕ) → 0x20 ≤ b → b ≤ 0x7E → printable b ≡ true
-unfolding printable
-among b l h = rw (le-leb 0x20 b l, le-leb b 0x7E h)
-
--- ---- the bytes from a place on
-
-module _ (name : List ℕ) (i : ℕ) where
-  module _ (h : i < length name) where
-    pub print-next : printable (get_or name i 0) ≡ true → first_broken (print_rules (i + 1) (drop (i + 1) name)) ≡ first_broken (print_rules i (drop i name))
-    unfolding print_rules
-    print-next e = sym (rw (add-one i, drop-cons name i 0 h) (flag-holds 15 i _ _ e))
-
-    pub print-stop : printable (get_or name i 0) ≡ false → first_broken (print_rules i (drop i name)) ≡ broken 15 i
-    unfolding print_rules
-    print-stop e = rw (drop-cons name i 0 h) (flag-breaks 15 i _ _ e)
-
-  pub print-end : length name ≤ i → first_broken (print_rules i (drop i name)) ≡ sound
-  unfolding print_rules first_broken
-  print-end h = rw (drop_of_length-le name h)
+print-first : (name : List ℕ) (i : ℕ) → first_broken (print_rules i name) ≡ first_of (position_from (λ b. not (printable b)) i name)
+unfolding print_rules first_broken
+print-first [] i = refl
+print-first (b ∷ s) i = go (printable b) (ap (λ (k : ℕ). first_broken (print_rules k s)) (sym (add-one i)) ∙ print-first s (i + 1))
+  where
+    go : (t : Bool) → first_broken (print_rules (suc i) s) ≡ first_of (position_from (λ b. not (printable b)) (i + 1) s)
+        → first_broken (flag 15 i t ∷ print_rules (suc i) s)
+        ≡ first_of (cond (not t) (Some i) (position_from (λ b. not (printable b)) (i + 1) s))
+    go true h = flag-holds 15 i (print_rules (suc i) s) true refl ∙ h
+    go false h = flag-breaks 15 i (print_rules (suc i) s) false refl
 
 -- ---- the rules, by what was found
 
-module _ (name : List ℕ) (p room : ℕ) (found : Printable name p) where
-  pub label-unprintable : p < length name → first_broken (label_rules name room) ≡ broken 15 p
+module _ (name : List ℕ) (room : ℕ) where
+  pub label-unprintable : (p : ℕ) → Some p ≡ position_from (λ b. not (printable b)) 0 name
+      → first_broken (label_rules name room) ≡ broken 15 p
   unfolding label_rules
-  label-unprintable h = then-broken _ _ 15 p (sym found.before ∙ print-stop name p h (found.stops h))
+  label-unprintable p e = then-broken (print_rules 0 name) _ 15 p (print-first name 0 ∙ ap first_of (sym e))
 
-  all-print : length name ≤ p → first_broken (label_rules name room) ≡ first_broken (at_least 12 16 room 16 ∷ [])
+  all-print : None ≡ position_from (λ b. not (printable b)) 0 name
+      → first_broken (label_rules name room) ≡ first_broken (at_least 12 16 room 16 ∷ [])
   unfolding label_rules
-  all-print h = then-sound _ _ (sym found.before ∙ print-end name p h)
+  all-print e = then-sound (print_rules 0 name) _ (print-first name 0 ∙ ap first_of (sym e))
 
-  pub label-no-room : length name ≤ p → room < 16 → first_broken (label_rules name room) ≡ broken 12 16
+  pub label-no-room : None ≡ position_from (λ b. not (printable b)) 0 name → room < 16 → first_broken (label_rules name room) ≡ broken 12 16
   label-no-room h r = all-print h ∙ least-breaks 12 16 [] room 16 r
 
-  pub label-fits : length name ≤ p → 16 ≤ room → first_broken (label_rules name room) ≡ sound
+  pub label-fits : None ≡ position_from (λ b. not (printable b)) 0 name → 16 ≤ room → first_broken (label_rules name room) ≡ sound
   unfolding first_broken
   label-fits h r = all-print h ∙ least-holds 12 16 [] room 16 r
 

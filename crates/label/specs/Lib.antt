@@ -1,3 +1,1 @@
 pub mod Label
-pub mod Answer
-pub mod Inner

@@ -1,43 +1,20 @@
 // The panel label of a name. A refusal leaves the panel as it was.
 #![tactic(auto)]
 
-ghost use Rattle.std.specs.Prelude.{◌≡◌, ◌≤◌, ◌<◌, length};
+ghost use Rattle.verdict.specs.Answer.{outcome_of};
+ghost use Rattle.std.specs.Prelude.{◌≡◌, ◌≤◌, ◌<◌, length, not};
+ghost use Rattle.std.specs.List.{position_from};
 ghost use Rattle.wire.specs.Wire.{splice};
-ghost use Rattle.label.specs.Label.{padded, abridged, label_of, label_out};
-ghost use Rattle.label.specs.Answer.{labelled_of};
-ghost use Rattle.label.specs.Inner.{Printable};
+ghost use Rattle.label.specs.Label.{printable, padded, abridged, label_of, label_out};
 
 use verdict::Refusal;
 
-#[derive(Clone, Copy)]
-pub enum Labelled {
-    // whether the label is a shortened name
-    Written(bool),
-    Refused(Refusal),
-}
-
-fn refuse(number: u8, place: u64) -> Labelled
-    ensures { result ≡ Labelled.Refused (record { number = number; place = place }) }
+// The place of the first byte that isn't printable.
+#[tactic(auto, unfolding(crate::specs::Label::printable))]
+fn first_unprintable(name: &[u8]) -> Option<usize>
+    ensures { result ≡ position_from (λ b. not (printable b)) 0 name.now }
 {
-    Labelled::Refused(Refusal { number, place })
-}
-
-// The place of the first byte that isn't printable, or the length.
-fn first_unprintable(name: &[u8]) -> usize
-    ensures { Printable name.now result }
-{
-    let mut i = 0;
-    while i < name.len() {
-        let b = name[i];
-        if b < 0x20 {
-            return i;
-        }
-        if 0x7E < b {
-            return i;
-        }
-        i += 1;
-    }
-    i
+    name.iter().position(|b| !matches!(*b, b' '..=b'~'))
 }
 
 // Puts a name of at most sixteen bytes, then spaces.
@@ -63,23 +40,27 @@ fn abridge(panel: &mut [u8], name: &[u8])
 }
 
 // Puts the label of a name into the first sixteen bytes of a panel; a longer panel keeps the rest.
-pub fn label(name: &[u8], panel: &mut [u8]) -> Labelled
-    ensures { (labelled_of result ≡ label_of name.now (length panel.old))
+pub fn label(name: &[u8], panel: &mut [u8]) -> Result<bool, Refusal>
+    ensures { (outcome_of result ≡ label_of name.now (length panel.old))
         × (panel.new ≡ label_out name.now panel.old) }
 {
-    let n = name.len();
     // the whole name, since a byte that isn't printable is refused where it would not show, too
-    let p = first_unprintable(name);
-    if p < n {
-        return refuse(15, p as u64);
+    if let Some(p) = first_unprintable(name) {
+        return Err(Refusal {
+            number: 15,
+            place: p as u64,
+        });
     }
     if panel.len() < 16 {
-        return refuse(12, 16);
+        return Err(Refusal {
+            number: 12,
+            place: 16,
+        });
     }
-    if 16 < n {
+    if 16 < name.len() {
         abridge(panel, name);
-        return Labelled::Written(true);
+        return Ok(true);
     }
     pad(panel, name);
-    Labelled::Written(false)
+    Ok(false)
 }

@@ -10,8 +10,10 @@ use lib.ListN.{length, take, drop}
 use lib.Seq.{take-length}
 use Rattle.wire.specs.Wire.{Bytes, le, le_at}
 use Rattle.wire.proofs.Numbers.{le_at-zero, le_at-add, le_at-below, le_at-drop, le_at-take, le-from_le}
-use Rattle.order.specs.declared.Order.{Order}
-use Rattle.order.specs.declared.Order.TheVariants.{Less, Equal, Greater}
+use Rattle.std.specs.declared.cmp.Ordering.{Ordering}
+use Rattle.std.specs.declared.cmp.Ordering.TheVariants.{Less, Equal, Greater}
+use Rattle.std.specs.Ordering.{MatchOrdering, nat_cmp}
+use Rattle.std.proofs.lemmas.Cmp.{ranked}
 use Rattle.order.specs.Value.{Compared, value_of}
 
 -- ---- eight bytes
@@ -41,14 +43,14 @@ parts x n k h =
     ∙ ap (λ (m : ℕ). le_at k x 0 + le_at (n - k) x m * 256 ^ k) (zero-add k)
 
 -- where the high bytes agree the low ones decide
-pub low-decide : (r : Order) (x y : List ℕ) (n k : ℕ) → Agree x y n k → Compared r (le_at k x 0) (le_at k y 0)
+pub low-decide : (r : Ordering) (x y : List ℕ) (n k : ℕ) → Agree x y n k → Compared r (le_at k x 0) (le_at k y 0)
     → Compared r (le_at n x 0) (le_at n y 0)
 low-decide r x y n k g c = go r c
   where
     more : le_at n x 0 + le_at k y 0 ≡ le_at n y 0 + le_at k x 0
     more = rw (parts x n k g.within, parts y n k g.within, g.top) (omega arith)
 
-    go : (r : Order) → Compared r (le_at k x 0) (le_at k y 0) → Compared r (le_at n x 0) (le_at n y 0)
+    go : (r : Ordering) → Compared r (le_at k x 0) (le_at k y 0) → Compared r (le_at n x 0) (le_at n y 0)
     go Less c = omega (arith, more)
     go Equal c = omega (arith, more)
     go Greater c = omega (arith, more)
@@ -72,7 +74,7 @@ module _ (x y : List ℕ) (n k w : ℕ) (g : Agree x y n k) (h : w ≤ k) where
       let l = g.within in
       record { within = omega arith; top = rw (next-part x, next-part y, g.top, e) }
 
-  pub part-decides : Bytes x → le_at w x (k - w) < le_at w y (k - w) → le_at n x 0 < le_at n y 0
+  part-decides : Bytes x → le_at w x (k - w) < le_at w y (k - w) → le_at n x 0 < le_at n y 0
   part-decides bytes l =
       let i = g.within in
       let t : le_at (n - (k - w)) x (k - w) < le_at (n - (k - w)) y (k - w) =
@@ -80,8 +82,19 @@ module _ (x y : List ℕ) (n k w : ℕ) (g : Agree x y n k) (h : w ≤ k) where
       let o = outweighs (256 ^ (k - w)) (le_at (k - w) x 0) _ _ (le_at-below (k - w) x 0 bytes) t in
       rw (parts x n (k - w) (omega arith), parts y n (k - w) (omega arith)) (omega arith)
 
-pub agree-turned : (x y : List ℕ) (n k : ℕ) → Agree x y n k → Agree y x n k
+agree-turned : (x y : List ℕ) (n k : ℕ) → Agree x y n k → Agree y x n k
 agree-turned x y n k g = record { within = g.within; top = sym g.top }
+
+-- where the next w bytes differ they decide
+pub part-compared : (r : Ordering) (x y : List ℕ) (n k w : ℕ) → Agree x y n k → w ≤ k → Bytes x → Bytes y
+    → (a b : ℕ) → a ≡ le_at w x (k - w) → b ≡ le_at w y (k - w) → (a ≡ b → ⊥) → r ≡ nat_cmp a b
+    → Compared r (le_at n x 0) (le_at n y 0)
+part-compared r x y n k w g h p q a b e f d c = go r (ranked a b r c)
+  where
+    go : (r : Ordering) → MatchOrdering r (a < b) (a ≡ b) (b < a) → Compared r (le_at n x 0) (le_at n y 0)
+    go Less l = part-decides x y n k w g h p (omega arith)
+    go Equal l = absurd (d l)
+    go Greater l = part-decides y x n k w (agree-turned x y n k g) h q (omega arith)
 
 pub all-agree : (x y : List ℕ) (n k : ℕ) → Agree x y n k → k ≤ 0 → le_at n x 0 ≡ le_at n y 0
 all-agree x y n k g h =
@@ -91,18 +104,28 @@ all-agree x y n k g h =
 -- ---- values
 
 -- a shorter string has a smaller value
-pub value-shorter : (x y : List ℕ) → Bytes x → length x < length y → value_of x < value_of y
+value-shorter : (x y : List ℕ) → Bytes x → length x < length y → value_of x < value_of y
 unfolding value_of
 value-shorter x y bytes h =
     omega (arith, le_at-below (length x) x 0 bytes, pow-suc 256 (length x), pow-le-pow_right {n = 256} (lit< tt) h)
 
+pub value-lengths : (r : Ordering) (x y : List ℕ) → Bytes x → Bytes y → (length x ≡ length y → ⊥) → r ≡ nat_cmp (length x) (length y)
+    → Compared r (value_of x) (value_of y)
+value-lengths r x y p q d c = go r (ranked (length x) (length y) r c)
+  where
+    go : (r : Ordering) → MatchOrdering r (length x < length y) (length x ≡ length y) (length y < length x)
+        → Compared r (value_of x) (value_of y)
+    go Less l = value-shorter x y p l
+    go Equal l = absurd (d l)
+    go Greater l = value-shorter y x q l
+
 -- of strings of one length the bytes decide
-pub value-compared : (x y : List ℕ) (r : Order) (n : ℕ) → n ≡ length x → n ≡ length y
+pub value-compared : (x y : List ℕ) (r : Ordering) (n : ℕ) → n ≡ length x → n ≡ length y
     → Compared r (le_at n x 0) (le_at n y 0) → Compared r (value_of x) (value_of y)
 unfolding value_of
 value-compared x y r n e f c = rw (← e, ← f) (go r c)
   where
-    go : (r : Order) → Compared r (le_at n x 0) (le_at n y 0)
+    go : (r : Ordering) → Compared r (le_at n x 0) (le_at n y 0)
         → Compared r (le_at n x 0 + 256 ^ n) (le_at n y 0 + 256 ^ n)
     go Less c = omega arith
     go Equal c = omega arith

@@ -20,10 +20,8 @@ fn flip(file: &mut [u8], n: usize, at: usize, table: &mut [u8]) {
 }
 
 fn flips(file: &mut [u8], n: usize, from: usize, to: usize, table: &mut [u8]) {
-    let mut at = from;
-    while at < to {
+    for at in from..to {
         flip(file, n, at, table);
-        at += 1;
     }
 }
 

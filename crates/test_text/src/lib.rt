@@ -53,10 +53,8 @@ pub fn with_bytes(out: &mut [u8], at: usize, s: &[u8]) -> usize
     ensures { IsPrefixLen result out.new }
 {
     let mut end = reach(&*out, at, 0);
-    let mut i = 0;
-    while i < s.len() {
+    for i in 0..s.len() {
         end = with_hex(out, end, wide(s[i]), 2);
-        i += 1;
     }
     end
 }
@@ -75,12 +73,10 @@ pub fn with_refusal(out: &mut [u8], r: Refusal) -> usize
 pub fn find(s: &[u8], from: usize, b: u8) -> usize
     ensures { (result ≤ length s.now) × (min from (length s.now) ≤ result) }
 {
-    let mut i = from;
-    while i < s.len() {
+    for i in from..s.len() {
         if s[i] == b {
             return i;
         }
-        i += 1;
     }
     s.len()
 }
@@ -115,10 +111,8 @@ pub fn unhex(s: &[u8], out: &mut [u8]) -> usize
     ensures { IsPrefixLen result out.new }
 {
     let n = least(s.len() / 2, out.len());
-    let mut i = 0;
-    while i < n {
+    for i in 0..n {
         out[i] = digit(s[i * 2]) * 16 + digit(s[i * 2 + 1]);
-        i += 1;
     }
     n
 }
@@ -146,10 +140,8 @@ fn with_digit(n: u64, d: u64) -> u64 {
 // The number that s spells in decimal digits.
 pub fn number(s: &[u8]) -> u64 {
     let mut n: u64 = 0;
-    let mut i = 0;
-    while i < s.len() {
+    for i in 0..s.len() {
         n = with_digit(n, wide(digit(s[i])));
-        i += 1;
     }
     n
 }

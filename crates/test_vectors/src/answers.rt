@@ -4,16 +4,10 @@ ghost use Rattle.io.specs.Counts.{IsPrefixLen};
 ghost use Rattle.lookup.specs.Lookup.{lookup_of, name_in};
 
 use crate::held;
-use entries::Entries;
-use label::Labelled;
-use lookup::Located;
-use name_search::Sought;
-use names::Counted;
 use parts::Epoch;
-use query::Queried;
-use recovery::{Recovered, Report};
-use varint::Decoded;
-use verdict::{Checked, Refusal};
+use recovery::Report;
+use varint::DecodeError;
+use verdict::Refusal;
 
 pub fn crc32(s: &[u8], out: &mut [u8]) -> usize
     ensures { IsPrefixLen result out.new }
@@ -55,23 +49,23 @@ pub fn varint(s: &[u8], out: &mut [u8]) -> usize
 {
     let d = varint::decode_at(s, 0);
     match d {
-        Decoded::Value(value, next) => spelled(value, next, out),
-        Decoded::Cut => test_text::with(out, 0, b"cut"),
-        Decoded::Malformed => test_text::with(out, 0, b"malformed"),
+        Ok((value, next)) => spelled(value, next, out),
+        Err(DecodeError::Cut) => test_text::with(out, 0, b"cut"),
+        Err(DecodeError::Malformed) => test_text::with(out, 0, b"malformed"),
     }
 }
 
-fn labelled(l: Labelled, out: &mut [u8]) -> usize
+fn labelled(l: Result<bool, Refusal>, out: &mut [u8]) -> usize
     ensures { IsPrefixLen result out.new }
 {
     match l {
-        Labelled::Written(shortened) => {
+        Ok(shortened) => {
             if shortened {
                 return test_text::with(out, 0, b"shortened");
             }
             test_text::with(out, 0, b"written")
         }
-        Labelled::Refused(r) => test_text::with_refusal(out, r),
+        Err(r) => test_text::with_refusal(out, r),
     }
 }
 
@@ -100,8 +94,8 @@ pub fn names(s: &[u8], out: &mut [u8]) -> usize
 {
     let c = names::check(s);
     match c {
-        Counted::Names(n) => test_text::with_decimal(out, 0, n as u64),
-        Counted::Refused(r) => test_text::with_refusal(out, r),
+        Ok(n) => test_text::with_decimal(out, 0, n as u64),
+        Err(r) => test_text::with_refusal(out, r),
     }
 }
 
@@ -129,12 +123,10 @@ fn letters(i: u32, n: u32, kind: u8) -> u32
 }
 
 fn fill(dictionary: &mut [u8], n: u32, kind: u8) {
-    let mut i: u32 = 0;
     let mut at: usize = 4;
-    while i < n {
+    for i in 0..n {
         put_name(dictionary, at, i, letters(i, n, kind));
         at += 7;
-        i += 1;
     }
 }
 
@@ -167,8 +159,7 @@ fn located(place: usize, name: &[u8], out: &mut [u8]) -> usize
 fn handed(dictionary: &[u8], id: u64) -> &[u8]
     ensures { result.now ≡ name_in (lookup_of dictionary.now id) dictionary.now }
 {
-    let n = lookup::name(dictionary, id);
-    n.bytes
+    lookup::name(dictionary, id).unwrap_or(&[])
 }
 
 pub fn name(s: &[u8], out: &mut [u8]) -> usize
@@ -178,8 +169,8 @@ pub fn name(s: &[u8], out: &mut [u8]) -> usize
     let dictionary = wire::part_at(s, 8, s.len());
     let l = lookup::locate(dictionary, id);
     match l {
-        Located::At(p) => located(p.place, handed(dictionary, id), out),
-        Located::Refused(r) => test_text::with_refusal(out, r),
+        Ok(p) => located(p.place, handed(dictionary, id), out),
+        Err(r) => test_text::with_refusal(out, r),
     }
 }
 
@@ -190,9 +181,9 @@ pub fn number(s: &[u8], out: &mut [u8]) -> usize
     let dictionary = wire::part_at(s, 1 + n, s.len());
     let f = name_search::number_of(dictionary, wire::part_at(s, 1, n));
     match f {
-        Sought::Number(i) => test_text::with_decimal(out, 0, i as u64),
-        Sought::Missing => test_text::with(out, 0, b"missing"),
-        Sought::Refused(r) => test_text::with_refusal(out, r),
+        Ok(Some(i)) => test_text::with_decimal(out, 0, i as u64),
+        Ok(None) => test_text::with(out, 0, b"missing"),
+        Err(r) => test_text::with_refusal(out, r),
     }
 }
 
@@ -201,11 +192,9 @@ fn chosen(n: u32, numbers: &[u32], out: &mut [u8]) -> usize
     ensures { IsPrefixLen result out.new }
 {
     let mut end = test_text::with_decimal(out, 0, n as u64);
-    let mut i = 0;
-    while i < numbers.len() {
+    for i in 0..numbers.len() {
         end = test_text::with(out, end, b" ");
         end = test_text::with_decimal(out, end, wide(numbers[i]));
-        i += 1;
     }
     end
 }
@@ -214,12 +203,12 @@ fn wide(x: u32) -> u64 {
     x as u64
 }
 
-fn queried(q: Queried, numbers: &[u32], out: &mut [u8]) -> usize
+fn queried(q: Result<u32, Refusal>, numbers: &[u32], out: &mut [u8]) -> usize
     ensures { IsPrefixLen result out.new }
 {
     match q {
-        Queried::Listed(n) => chosen(n, numbers, out),
-        Queried::Refused(r) => test_text::with_refusal(out, r),
+        Ok(n) => chosen(n, numbers, out),
+        Err(r) => test_text::with_refusal(out, r),
     }
 }
 
@@ -251,8 +240,8 @@ pub fn entries(s: &[u8], out: &mut [u8]) -> usize
     let start = Epoch(wire::u64_at(s, 0));
     let e = entries::check(wire::part_at(s, 12, s.len()), start, wire::u32_at(s, 8));
     match e {
-        Entries::Read(n, t) => counted(n, t, out),
-        Entries::Refused(r) => test_text::with_refusal(out, r),
+        Ok((n, t)) => counted(n, t, out),
+        Err(r) => test_text::with_refusal(out, r),
     }
 }
 
@@ -266,13 +255,13 @@ fn counted(n: u64, last: Epoch, out: &mut [u8]) -> usize
 }
 
 // What stopped a scan: 0 at place 0 for a clean end.
-fn stop_of(v: Checked) -> Refusal {
+fn stop_of(v: Result<(), Refusal>) -> Refusal {
     match v {
-        Checked::Sound => Refusal {
+        Ok(()) => Refusal {
             number: 0,
             place: 0,
         },
-        Checked::Broken(r) => r,
+        Err(r) => r,
     }
 }
 
@@ -315,7 +304,7 @@ pub fn recover(s: &[u8], out: &mut [u8]) -> usize
     let mut table = [0xAAu8; 68];
     let r = recovery::recover(s, &mut table);
     match r {
-        Recovered::Found(r) => reported(r, &table, out),
-        Recovered::Refused(r) => test_text::with_refusal(out, r),
+        Ok(r) => reported(r, &table, out),
+        Err(r) => test_text::with_refusal(out, r),
     }
 }

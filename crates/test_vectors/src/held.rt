@@ -1,18 +1,18 @@
 // The query over the rows of a table, held as structs.
+ghost use Rattle.verdict.specs.Answer.{outcome_of};
 ghost use Rattle.std.specs.Prelude.{◌≡◌, ◌/◌, min, length};
 ghost use Rattle.rows.specs.Rows.{stride, rows_of};
 ghost use Rattle.query.specs.Query.{query_of, query_out};
-ghost use Rattle.query.specs.Answer.{queried_of};
 
 use parts::Epoch;
-use query::Queried;
 use rows::Row;
+use verdict::Refusal;
 
 // Asks for the first rows of a table, eight at most.
-pub fn ask(table: &[u8], from: Epoch, to: Epoch, numbers: &mut [u32]) -> Queried
+pub fn ask(table: &[u8], from: Epoch, to: Epoch, numbers: &mut [u32]) -> Result<u32, Refusal>
     ensures { let table₀ = table.now in
         let numbers₀ = numbers.old in
-        (queried_of result ≡ query_of (rows_of (min (length table₀ / stride) 8) table₀) from to (length numbers₀))
+        (outcome_of result ≡ query_of (rows_of (min (length table₀ / stride) 8) table₀) from to (length numbers₀))
         × (numbers.new ≡ query_out (rows_of (min (length table₀ / stride) 8) table₀) from to numbers₀) }
 {
     let empty = Row::empty();

@@ -2,10 +2,9 @@
 use blocks::Scanned;
 use frame::Frame;
 use parts::Epoch;
-use reader::Opened;
-use recovery::{Recovered, Report};
+use recovery::Report;
 use rows::Row;
-use verdict::{Checked, Refusal};
+use verdict::Refusal;
 
 // Standard output, by its number.
 const STDOUT_FILENO: i32 = 1;
@@ -73,18 +72,18 @@ fn log(log: Frame) {
     time(log.last);
 }
 
-pub fn opened(o: Opened) {
+pub fn opened(o: Result<Frame, Refusal>) {
     match o {
-        Opened::Log(l) => log(l),
-        Opened::Refused(r) => refusal(r),
+        Ok(l) => log(l),
+        Err(r) => refusal(r),
     }
 }
 
 // What stopped a scan: 0 at place 0 for a clean end.
-fn stop(v: Checked) {
+fn stop(v: Result<(), Refusal>) {
     match v {
-        Checked::Sound => say(b" 0 0"),
-        Checked::Broken(r) => {
+        Ok(()) => say(b" 0 0"),
+        Err(r) => {
             number(r.number as u64);
             number(r.place);
         }
@@ -100,7 +99,7 @@ fn wholeness(whole: bool) {
 }
 
 // How many blocks, the end of the last, and what stopped the scan.
-fn blocks_found(blocks: u32, end: u64, v: Checked) {
+fn blocks_found(blocks: u32, end: u64, v: Result<(), Refusal>) {
     number(blocks as u64);
     number(end);
     stop(v);
@@ -120,10 +119,10 @@ pub fn scanned(s: Scanned) {
     end_line();
 }
 
-pub fn recovered(r: Recovered) {
+pub fn recovered(r: Result<Report, Refusal>) {
     match r {
-        Recovered::Found(f) => report(f),
-        Recovered::Refused(w) => refusal(w),
+        Ok(f) => report(f),
+        Err(w) => refusal(w),
     }
 }
 
@@ -138,9 +137,7 @@ fn row(r: Row) {
 
 // The first n rows of a table, a line each.
 pub fn rows(table: &[u8], n: usize) {
-    let mut i = 0;
-    while i < n {
+    for i in 0..n {
         row(rows::row_at(table, i));
-        i += 1;
     }
 }

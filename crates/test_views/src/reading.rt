@@ -1,9 +1,6 @@
 // A file, opened and recovered, whole and cut at each byte; its parts.
 use crate::print;
-use access::Located;
 use parts::Epoch;
-use reader::Opened;
-use recovery::Recovered;
 use rows::Row;
 
 fn open(f: &[u8], table: &mut [u8]) {
@@ -11,8 +8,8 @@ fn open(f: &[u8], table: &mut [u8]) {
     print::opened(o);
     print::end_line();
     match o {
-        Opened::Log(log) => print::rows(&*table, log.blocks as usize),
-        Opened::Refused(_) => {}
+        Ok(log) => print::rows(&*table, log.blocks as usize),
+        Err(_) => {}
     }
 }
 
@@ -27,8 +24,8 @@ fn recover(f: &[u8], table: &mut [u8]) {
     print::recovered(r);
     print::end_line();
     match r {
-        Recovered::Found(report) => print::rows(&*table, report.blocks as usize),
-        Recovered::Refused(_) => {}
+        Ok(report) => print::rows(&*table, report.blocks as usize),
+        Err(_) => {}
     }
 }
 
@@ -65,12 +62,12 @@ pub fn cuts(f: &[u8], table: &mut [u8]) {
 pub fn stored(f: &[u8], table: &mut [u8], i: u64) {
     let o = reader::open(f, table);
     match o {
-        Opened::Refused(r) => print::refusal_line(r),
-        Opened::Log(log) => {
+        Err(r) => print::refusal_line(r),
+        Ok(log) => {
             let l = access::locate(&*table, log.blocks, i);
             match l {
-                Located::Row(row) => print::bytes_line(access::stored(f, row)),
-                Located::Refused(r) => print::refusal_line(r),
+                Ok(row) => print::bytes_line(access::stored(f, row)),
+                Err(r) => print::refusal_line(r),
             }
         }
     }
@@ -91,7 +88,7 @@ pub fn stored_at(f: &[u8], offset: u64, size: u32) {
 pub fn dictionary(f: &[u8], table: &mut [u8]) {
     let o = reader::open(f, table);
     match o {
-        Opened::Refused(r) => print::refusal_line(r),
-        Opened::Log(log) => print::bytes_line(access::dictionary(f, log)),
+        Err(r) => print::refusal_line(r),
+        Ok(log) => print::bytes_line(access::dictionary(f, log)),
     }
 }

@@ -1,9 +1,8 @@
 // What the writer's calls and repair answer, printed.
-use repair::Repaired;
+use repair::Kept;
 use test_views::print;
-use writer::{Pending, Stored, Turn, Writer};
-use writer_entries::Entered;
-use writer_names::Named;
+use verdict::Refusal;
+use writer::{Pending, Turn, Writer};
 
 // How many bytes were stored, and the first 200 of them.
 fn stores(size: u64, out: &[u8]) {
@@ -14,28 +13,28 @@ fn stores(size: u64, out: &[u8]) {
     print::end_line();
 }
 
-pub fn stored(r: Stored, out: &[u8]) {
+pub fn stored(r: Result<(Writer, u64), Refusal>, out: &[u8]) {
     match r {
-        Stored::Done(_, size) => stores(size, out),
-        Stored::Refused(w) => print::refusal_line(w),
+        Ok((_, size)) => stores(size, out),
+        Err(w) => print::refusal_line(w),
     }
 }
 
-pub fn named(r: Named) {
+pub fn named(r: Result<(Writer, u32), Refusal>) {
     match r {
-        Named::Number(_, i) => {
+        Ok((_, i)) => {
             print::say(b"number");
             print::number(i as u64);
             print::end_line();
         }
-        Named::Refused(w) => print::refusal_line(w),
+        Err(w) => print::refusal_line(w),
     }
 }
 
-pub fn entered(r: Entered) {
+pub fn entered(r: Result<Writer, Refusal>) {
     match r {
-        Entered::Done(_) => print::say(b"entered\n"),
-        Entered::Refused(w) => print::refusal_line(w),
+        Ok(_) => print::say(b"entered\n"),
+        Err(w) => print::refusal_line(w),
     }
 }
 
@@ -68,15 +67,15 @@ pub fn state(w: Writer) {
 }
 
 // The length of the finished file, how many bytes it keeps, and the CRC-32 of the output.
-pub fn repaired(r: Repaired, out: &[u8]) {
+pub fn repaired(r: Result<Kept, Refusal>, out: &[u8]) {
     match r {
-        Repaired::Done(k) => {
+        Ok(k) => {
             print::say(b"repaired");
             print::number(k.length);
             print::number(k.kept);
             print::sum(out);
             print::end_line();
         }
-        Repaired::Refused(w) => print::refusal_line(w),
+        Err(w) => print::refusal_line(w),
     }
 }

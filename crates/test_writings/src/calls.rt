@@ -4,7 +4,8 @@ use crate::draft::{Adding, Draft};
 use crate::{answers, draft};
 use cursor::{Field, Value};
 use parts::{Epoch, Header};
-use writer::{Stored, Writer};
+use verdict::Refusal;
+use writer::Writer;
 
 // On the file's own bytes.
 fn change(c: Changing, line: &[u8], s: Draft, file: &mut [u8]) -> Draft {
@@ -79,19 +80,30 @@ pub fn enter(
     }
 }
 
-fn block(line: &[u8], w: Writer, table: &mut [u8], out: &mut [u8]) -> Stored {
+fn block(
+    line: &[u8],
+    w: Writer,
+    table: &mut [u8],
+    out: &mut [u8],
+) -> Result<(Writer, u64), Refusal> {
     let plain = test_text::word(line, 5);
     let stored = test_text::word(line, 6);
     draft::block(w, adding(line), plain, stored, table, out)
 }
 
-fn close(line: &[u8], w: Writer, table: &[u8], out: &mut [u8]) -> Stored {
+fn close(line: &[u8], w: Writer, table: &[u8], out: &mut [u8]) -> Result<(Writer, u64), Refusal> {
     let plain = test_text::word(line, 2);
     let stored = test_text::word(line, 3);
     draft::close(w, test_text::size_at(line, 1), plain, stored, table, out)
 }
 
-fn call(c: Storing, line: &[u8], w: Writer, table: &mut [u8], out: &mut [u8]) -> Stored {
+fn call(
+    c: Storing,
+    line: &[u8],
+    w: Writer,
+    table: &mut [u8],
+    out: &mut [u8],
+) -> Result<(Writer, u64), Refusal> {
     match c {
         Storing::Begin => draft::begin(w, test_text::size_at(line, 1), out),
         Storing::Block => block(line, w, table, out),

@@ -1,12 +1,11 @@
 // The writer's calls, with the bytes that are lent to it, and the file that its stores are put in.
 use crate::answers;
-use cursor::{Cursor, Field, FieldStep, Value};
+use cursor::{Cursor, Field, Value};
 use parts::Epoch;
-use repair::Repaired;
+use repair::Kept;
 use test_views::print;
-use writer::{Stored, Writer};
-use writer_entries::Entered;
-use writer_names::Named;
+use verdict::Refusal;
+use writer::Writer;
 
 // What is kept from line to line, beside the lent bytes: the writer, and the length of the file.
 #[derive(Clone, Copy)]
@@ -42,10 +41,16 @@ fn put_stores(file: &mut [u8], end: usize, header: usize, stores: &[u8]) -> usiz
 }
 
 // The draft behind a call whose stores start with a header of so many bytes.
-pub fn behind(s: Draft, r: Stored, header: usize, out: &[u8], file: &mut [u8]) -> Draft {
+pub fn behind(
+    s: Draft,
+    r: Result<(Writer, u64), Refusal>,
+    header: usize,
+    out: &[u8],
+    file: &mut [u8],
+) -> Draft {
     match r {
-        Stored::Refused(_) => s,
-        Stored::Done(w, size) => {
+        Err(_) => s,
+        Ok((w, size)) => {
             let stores = wire::part_at(out, 0, size as usize);
             let len = put_stores(file, s.len, header, stores);
             Draft { writer: w, len }
@@ -53,15 +58,15 @@ pub fn behind(s: Draft, r: Stored, header: usize, out: &[u8], file: &mut [u8]) -
     }
 }
 
-pub fn begin(w: Writer, room: usize, out: &mut [u8]) -> Stored {
+pub fn begin(w: Writer, room: usize, out: &mut [u8]) -> Result<(Writer, u64), Refusal> {
     let n = test_text::reach(&*out, 0, room);
     w.begin(&mut out[..n])
 }
 
-fn behind_name(s: Draft, r: Named) -> Draft {
+fn behind_name(s: Draft, r: Result<(Writer, u32), Refusal>) -> Draft {
     match r {
-        Named::Number(w, _) => with_writer(s, w),
-        Named::Refused(_) => s,
+        Ok((w, _)) => with_writer(s, w),
+        Err(_) => s,
     }
 }
 
@@ -86,10 +91,10 @@ pub fn long_name(s: Draft, room: usize, len: usize, dictionary: &mut [u8]) -> Dr
     add_name(s, room, wire::part_at(&letters, 0, len), dictionary)
 }
 
-fn behind_entry(s: Draft, r: Entered) -> Draft {
+fn behind_entry(s: Draft, r: Result<Writer, Refusal>) -> Draft {
     match r {
-        Entered::Done(w) => with_writer(s, w),
-        Entered::Refused(_) => s,
+        Ok(w) => with_writer(s, w),
+        Err(_) => s,
     }
 }
 
@@ -136,10 +141,8 @@ fn put_field(table: &mut [u8], i: u8, f: Field, bits: u64) {
 
 // 255 nulls of name 0.
 fn put_nulls(table: &mut [u8]) {
-    let mut i: u8 = 0;
-    while i < 255 {
+    for i in 0..255 {
         put_record(table, i, 0, 4, 0, 0);
-        i += 1;
     }
 }
 
@@ -159,10 +162,10 @@ fn put_fields(table: &mut [u8], entry: &[u8]) {
         let c = Cursor { at };
         let step = c.field(entry, 65535);
         match step {
-            FieldStep::Refused(_) => {
+            Err(_) => {
                 return;
             }
-            FieldStep::Field(f, next) => {
+            Ok((f, next)) => {
                 put_field(table, i, f, bits_before(entry, next.at));
                 at = next.at;
                 i += 1;
@@ -242,7 +245,7 @@ fn add_block(
     stored: &[u8],
     table: &mut [u8],
     out: &mut [u8],
-) -> Stored {
+) -> Result<(Writer, u64), Refusal> {
     let start = a.start;
     let n = test_text::reach(&*table, 0, a.rows);
     let k = test_text::reach(&*out, 0, a.room);
@@ -265,7 +268,7 @@ pub fn block(
     stored: &[u8],
     table: &mut [u8],
     out: &mut [u8],
-) -> Stored {
+) -> Result<(Writer, u64), Refusal> {
     let mut p = io::buffer();
     let n = test_text::unhex(plain, &mut p);
     let mut q = io::buffer();
@@ -274,7 +277,7 @@ pub fn block(
 }
 
 // A block of one entry of no fields, as early as may be, with all that is lent.
-fn small_block(w: Writer, table: &mut [u8], out: &mut [u8]) -> Stored {
+fn small_block(w: Writer, table: &mut [u8], out: &mut [u8]) -> Result<(Writer, u64), Refusal> {
     let end = w.end;
     writer_blocks::add_block(w, table, out, end, b"\x00\x00", b"\x00", w.given)
 }
@@ -307,7 +310,7 @@ fn close_with(
     stored: &[u8],
     table: &[u8],
     out: &mut [u8],
-) -> Stored {
+) -> Result<(Writer, u64), Refusal> {
     let n = test_text::reach(&*out, 0, room);
     writer_close::close(w, table, &mut out[..n], plain, stored)
 }
@@ -320,7 +323,7 @@ pub fn close(
     stored: &[u8],
     table: &[u8],
     out: &mut [u8],
-) -> Stored {
+) -> Result<(Writer, u64), Refusal> {
     let mut p = io::buffer();
     let n = test_text::unhex(plain, &mut p);
     let mut q = io::buffer();
@@ -340,7 +343,7 @@ pub fn state(s: Draft, dictionary: &[u8], payload: &[u8], table: &[u8], out: &[u
 }
 
 // Repair of a file with a stored dictionary in hexadecimal.
-pub fn mend(f: &[u8], room: usize, hex: &[u8], out: &mut [u8]) -> Repaired {
+pub fn mend(f: &[u8], room: usize, hex: &[u8], out: &mut [u8]) -> Result<Kept, Refusal> {
     let mut bytes = io::buffer();
     let n = test_text::unhex(hex, &mut bytes);
     let k = test_text::reach(&*out, 0, room);
@@ -348,10 +351,10 @@ pub fn mend(f: &[u8], room: usize, hex: &[u8], out: &mut [u8]) -> Repaired {
 }
 
 // The draft behind a repair: the finished file is the file then.
-pub fn behind_repair(s: Draft, r: Repaired, out: &[u8], file: &mut [u8]) -> Draft {
+pub fn behind_repair(s: Draft, r: Result<Kept, Refusal>, out: &[u8], file: &mut [u8]) -> Draft {
     match r {
-        Repaired::Refused(_) => s,
-        Repaired::Done(k) => {
+        Err(_) => s,
+        Ok(k) => {
             let n = test_text::with(file, 0, wire::part_at(out, 0, k.length as usize));
             with_len(s, n)
         }

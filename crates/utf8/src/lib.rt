@@ -13,10 +13,8 @@ fn or_bytes(s: &[u8], i: usize, w: usize) -> u8
     ensures { result < 0x80 → Low w s.now i }
 {
     let mut all: u8 = 0;
-    let mut k = 0;
-    while k < w {
+    for k in 0..w {
         all |= s[i + k];
-        k += 1;
     }
     all
 }
@@ -132,10 +130,8 @@ fn misfits(s: &[u8], i: usize, w: usize) -> bool
     ensures { result ≡ false → Fitting w s.now i }
 {
     let mut any = false;
-    let mut k = 0;
-    while k < w {
+    for k in 0..w {
         any = any | misfit(s[i + k], s[i + k + 1], s[i + k + 2], s[i + k + 3]);
-        k += 1;
     }
     any
 }

@@ -1,4 +1,7 @@
 -- Decoding at a position, byte by byte, and the turns of the loop that goes on after the first byte. Assumes nothing.
+use Rattle.std.specs.Prelude.{Result, Ok, Err}
+use Rattle.varint.specs.declared.DecodeError.TheVariants.{Cut, Malformed}
+use Rattle.varint.specs.declared.DecodeError.{DecodeError}
 use mathlib.Core.Path.{◌≡◌, refl, sym, ap, ◌∙◌}
 use mathlib.Core.List.{List}
 use Prim.Native.Nat.{ℕ, zero, suc, ◌+◌, ◌-◌, ◌*◌, ◌^◌, ◌≤◌, ◌<◌}
@@ -9,8 +12,6 @@ use lib.Dec.{lit<}
 use lib.ListN.{length, get_or, drop, drop_of_length-le}
 use lib.Seq.{drop-cons}
 use borrow.Author.Tests.{lt-ltb, le-ltb, le-leb, lt-leb}
-use Rattle.varint.specs.declared.Decoded.{Decoded}
-use Rattle.varint.specs.declared.Decoded.TheVariants.{Value, Cut, Malformed}
 use Rattle.varint.specs.Varint.{Decoding, value, cut, malformed, above, decode_in, decode}
 use Rattle.varint.specs.Answer.{answer_at, decoded_at}
 
@@ -45,21 +46,21 @@ module _ (s : List ℕ) (p b : ℕ) (here : b ≡ get_or s p 0) (l : p < length 
 
 -- ---- the first byte
 
-pub first-end : (s : List ℕ) (at : ℕ) → length s ≤ at → Cut ≡ decoded_at s at
+pub first-end : (s : List ℕ) (at : ℕ) → length s ≤ at → (Err Cut) ≡ decoded_at s at
 unfolding decoded_at answer_at decode
 first-end s at h = rw (decode_in-end 9 s at h)
 
-pub first-last : (s : List ℕ) (at b : ℕ) → b ≡ get_or s at 0 → at < length s → b < 128 → Value b (at + 1) ≡ decoded_at s at
+pub first-last : (s : List ℕ) (at b : ℕ) → b ≡ get_or s at 0 → at < length s → b < 128 → Ok (b, at + 1) ≡ decoded_at s at
 unfolding decoded_at answer_at decode
 first-last s at b e l h = rw (decode_in-last s at b e l 9 (omega arith) h)
 
 -- ---- the loop
 
 -- the answer where the groups before p make the number low: the value that is decoded at p counts times the scale
-unfoldable pub over : ℕ → ℕ → ℕ → Decoding → Decoded
-over low scale p (value v n) = Value (low + v * scale) (p + n)
-over low scale p cut = Cut
-over low scale p malformed = Malformed
+unfoldable pub over : ℕ → ℕ → ℕ → Decoding → Result (ℕ × ℕ) DecodeError
+over low scale p (value v n) = Ok (low + v * scale, p + n)
+over low scale p cut = Err Cut
+over low scale p malformed = Err Malformed
 
 -- the group at p goes to those before it
 over-above : (low scale p g : ℕ) (d : Decoding) → over low scale p (above g d) ≡ over (low + g * scale) (scale * 128) (p + 1) d
@@ -129,12 +130,12 @@ module _ {s : List ℕ} {at low scale left p : ℕ} (t : Turn s at low scale lef
   pub turn-high : (b : ℕ) → left ≤ 0 → b ≤ 1 → (b * scale ≤ 1 * scale) × (scale ≡ 2 ^ 63)
   turn-high b q h = (mul-le-mul_right scale h, scale-tenth scale left q t.scaled)
 
-  pub turn_end : length s ≤ p → Cut ≡ decoded_at s at
+  pub turn_end : length s ≤ p → (Err Cut) ≡ decoded_at s at
   unfolding over
   turn_end h = rw (decode_in-end left s p h) at t.rest
 
   module _ (b : ℕ) (here : b ≡ get_or s p 0) (l : p < length s) where
-    pub turn_last : 0 < left → b < 128 → Value (low + b * scale) (p + 1) ≡ decoded_at s at
+    pub turn_last : 0 < left → b < 128 → Ok (low + b * scale, p + 1) ≡ decoded_at s at
     unfolding over
     turn_last q h = rw (decode_in-last s p b here l left q h) at t.rest
 
@@ -147,10 +148,10 @@ module _ {s : List ℕ} {at low scale left p : ℕ} (t : Turn s at low scale lef
           rest = sym (over-above low scale p (b - 128) (decode_in (left - 1) (drop (p + 1) s))) ∙ rw (decode_in-more s p b here l left q h) at t.rest;
         }
 
-    pub turn-tenth : left ≤ 0 → b ≤ 1 → Value (low + b * scale) (p + 1) ≡ decoded_at s at
+    pub turn-tenth : left ≤ 0 → b ≤ 1 → Ok (low + b * scale, p + 1) ≡ decoded_at s at
     unfolding over
     turn-tenth q h = rw (decode_in-tenth s p b here l left q h) at t.rest
 
-    pub turn-long : left ≤ 0 → 1 < b → Malformed ≡ decoded_at s at
+    pub turn-long : left ≤ 0 → 1 < b → (Err Malformed) ≡ decoded_at s at
     unfolding over
     turn-long q h = rw (decode_in-long s p b here l left q h) at t.rest

@@ -6,72 +6,55 @@ ghost use Rattle.wire.specs.Wire.{splice};
 ghost use Rattle.varint.specs.Varint.{encode};
 ghost use Rattle.varint.specs.Answer.{decoded_at};
 
-// What stands at a position: a value and the position behind it; bytes that end too early; more than ten bytes or 64
-// bits.
-#[derive(Clone, Copy)]
-pub enum Decoded {
-    Value(u64, usize),
+// Why nothing stands at a position: the bytes end too early, or they make more than ten bytes or 64 bits.
+#[derive(Clone, Copy, Debug, PartialEq, Eq)]
+pub enum DecodeError {
     Cut,
     Malformed,
 }
 
-fn wide(x: u8) -> u64
-    ensures { (result ≡ x) × (result < 256) }
-{
-    x as u64
-}
-
-fn narrow(x: u64) -> u8
-    requires { x < 256 }
-    ensures { result ≡ x }
-{
-    x as u8
-}
-
-// Most varints are one byte, which is answered without a loop.
-pub fn decode_at(s: &[u8], at: usize) -> Decoded
+// The value at a position, and the position behind it. Most varints are one byte, which is answered without a loop.
+pub fn decode_at(s: &[u8], at: usize) -> Result<(u64, usize), DecodeError>
     ensures { result ≡ decoded_at s.now at }
 {
     if s.len() <= at {
-        return Decoded::Cut;
+        return Err(DecodeError::Cut);
     }
-    let first = wide(s[at]);
+    let first = u64::from(s[at]);
     if first < 128 {
-        return Decoded::Value(first, at + 1);
+        return Ok((first, at + 1));
     }
     decode_long(s, at, first - 128)
 }
 
 // The varint at a position whose first byte isn't its last and has `low` in its seven low bits.
-fn decode_long(s: &[u8], at: usize, low: u64) -> Decoded
+fn decode_long(s: &[u8], at: usize, low: u64) -> Result<(u64, usize), DecodeError>
     requires { (at < length s.now) × (128 + low ≡ get_or s.now at 0) }
     ensures { result ≡ decoded_at s.now at }
 {
     let mut value = low;
     let mut scale: u64 = 128;
-    let mut left: usize = 8;
     let mut p = at + 1;
-    while 0 < left {
+    for _ in 0..8u32 {
         if s.len() <= p {
-            return Decoded::Cut;
+            return Err(DecodeError::Cut);
         }
-        let b = wide(s[p]);
+        let b = u64::from(s[p]);
         p += 1;
-        left -= 1;
         if b < 128 {
-            return Decoded::Value(value + b * scale, p);
+            return Ok((value + b * scale, p));
         }
         value += (b - 128) * scale;
         scale *= 128;
     }
     if s.len() <= p {
-        return Decoded::Cut;
+        return Err(DecodeError::Cut);
     }
-    let tenth = wide(s[p]);
+    let tenth = u64::from(s[p]);
     if 1 < tenth {
-        return Decoded::Malformed;
+        return Err(DecodeError::Malformed);
     }
-    Decoded::Value(value + tenth * scale, p + 1)
+    Ok((value + tenth * scale, p + 1))
 }
 
 // How many bytes the shortest form takes: the bits below the leading zeros, divided by seven and rounded up. Zero has
@@ -79,10 +62,11 @@ fn decode_long(s: &[u8], at: usize, low: u64) -> Decoded
 pub fn encoded_len(v: u64) -> usize
     ensures { result ≡ length (encode v) }
 {
-    let bits = 64 - u64::leading_zeros(v) as usize;
+    let bits = 64 - v.leading_zeros() as usize;
     if bits <= 7 {
         return 1;
     }
+    // One division; `div_ceil` takes a remainder beside it.
     (bits + 6) / 7
 }
 
@@ -96,11 +80,11 @@ pub fn encode_at(out: &mut [u8], at: usize, v: u64)
         if out.len() <= p {
             return;
         }
-        out[p] = narrow(x % 128 + 128);
+        out[p] = (x % 128 + 128) as u8;
         x /= 128;
         p += 1;
     }
     if p < out.len() {
-        out[p] = narrow(x);
+        out[p] = x as u8;
     }
 }

@@ -1,5 +1,8 @@
 -- Laws of rules and verdicts. Assumes nothing.
-use mathlib.Core.Path.{◌≡◌, refl}
+use mathlib.Core.Path.{◌≡◌, refl, sym, ap}
+use Rattle.std.specs.Prelude.{Some, None, Result, Ok, Err, IsErrAnd}
+use Rattle.std.specs.Result.{result_ok}
+use Rattle.verdict.specs.declared.Refusal.{Refusal}
 use mathlib.Core.Bool.{Bool, true, false, cond}
 use mathlib.Core.List.{List, [], ◌∷◌, ◌++◌}
 use Prim.Native.Nat.{ℕ, ◌≤◌, ◌<◌}
@@ -127,3 +130,23 @@ pub first-ruled : (v : Verdict) → first_broken (ruled v) ≡ v
 unfolding ruled
 first-ruled sound = first-none
 first-ruled (broken n p) = flag-breaks n p [] false refl
+
+-- what a pair that a call gives is made of
+pub given-pair : {A B E : Type 0} (a c : A) (b d : B) → ◌≡◌ {A = Result (A × B) E} (Ok (a, b)) (Ok (c, d)) → (a ≡ c) × (b ≡ d)
+given-pair {A} {B} a c b d e =
+    let p : ◌≡◌ {A = A × B} (a, b) (c, d) = cc in
+    (ap (λ (q : A × B). q.0) p, ap (λ (q : A × B). q.1) p)
+
+-- what a `?` hands back where a call refuses
+pub err-passed : {A : Type 0} (r : Result A Refusal) (w : Refusal) → IsErrAnd r (λ e. e ≡ w) → r ≡ Err w
+err-passed (Ok x) w h = absurd h
+err-passed (Err e) w h = ap Err h
+
+-- what a call gave or refused, by the `ok` of it
+pub ok-given : {A : Type 0} (r : Result A Refusal) (x : A) → Some x ≡ result_ok r → r ≡ Ok x
+ok-given (Ok y) x e = let q : x ≡ y = cc in ap Ok (sym q)
+ok-given (Err w) x e = let z : ◌≡◌ {A = ℕ} 0 1 = cc in absurd (omega arith)
+
+pub ok-refused : {A : Type 0} (r : Result A Refusal) → None ≡ result_ok r → (w : Refusal) × (r ≡ Err w)
+ok-refused (Ok y) e = let z : ◌≡◌ {A = ℕ} 0 1 = cc in absurd (omega arith)
+ok-refused (Err w) e = (w, refl)

@@ -6,22 +6,15 @@ ghost use Rattle.verdict.specs.Rules.{broken};
 ghost use Rattle.verdict.specs.Answer.{verdict_of};
 
 // The paper's number, and the offset or the quantity that is at fault.
-#[derive(Clone, Copy)]
+#[derive(Clone, Copy, Debug, PartialEq, Eq)]
 pub struct Refusal {
     pub number: u8,
     pub place: u64,
 }
 
-// What a check of some rules finds: that all hold, or the first that doesn't.
-#[derive(Clone, Copy)]
-pub enum Checked {
-    Sound,
-    Broken(Refusal),
-}
-
 // A rule that doesn't hold, by its number and its place.
-pub fn broken(number: u8, place: u64) -> Checked
+pub fn broken(number: u8, place: u64) -> Result<(), Refusal>
     ensures { verdict_of result ≡ broken number place }
 {
-    Checked::Broken(Refusal { number, place })
+    Err(Refusal { number, place })
 }

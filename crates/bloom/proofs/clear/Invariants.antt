@@ -7,6 +7,3 @@ use Rattle.bloom.proofs.clear.Given as goal
 
 abbrev pub invariant-loop-i : goal.invariant-loop-i
 invariant-loop-i l = (l.filter ≡ replicate l.i 0 ++ drop l.i l.initial.filter) × (length l.filter ≡ length l.initial.filter) × (l.i ≤ l.n)
-
-abbrev pub decreases-loop-i : goal.decreases-loop-i
-decreases-loop-i l = l.n - l.i

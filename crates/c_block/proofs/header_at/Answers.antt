@@ -6,7 +6,7 @@ use Rattle.c_block.proofs.header_at.Goals as goal
 
 pub returns-then-is_cut : goal.returns-then-is_cut
 returns-then-is_cut c =
-    c.no_block.ensures ∙ header-cut _ _ (ltb-true _ _ (sym c.is_cut.ensures ∙ c.if-is_cut.true))
+    c.from.ensures ∙ header-cut _ _ (ltb-true _ _ (sym c.is_cut.ensures ∙ c.if-is_cut.true))
 
 pub returns : goal.returns
 returns c =

@@ -3,10 +3,10 @@ use mathlib.Core.Path.{ap, ◌∙◌}
 use Rattle.c_book.specs.Books.{span_answer, c_book_of}
 use Rattle.c_book.proofs.hplog_book.Goals as goal
 
-pub returns-in-Sound : goal.returns-in-Sound
+pub returns-in-Ok : goal.returns-in-Ok
 unfolding c_book_of
-returns-in-Sound c = c.found.ensures ∙ ap span_answer (rw c.in-Sound.is at c.check-b.ensures)
+returns-in-Ok c = c.found.ensures ∙ ap span_answer c.in-Ok.ensures
 
-pub returns-in-Refused : goal.returns-in-Refused
+pub returns-in-Err : goal.returns-in-Err
 unfolding c_book_of
-returns-in-Refused c = c.refused.ensures ∙ ap span_answer (rw c.in-Refused.is at c.check-b.ensures)
+returns-in-Err c = c.refused.ensures ∙ ap span_answer c.in-Err.ensures

@@ -7,12 +7,12 @@ use Rattle.c_book.proofs.hplog_book_parts.Goals as goal
 
 pub overflow_add-result : goal.overflow_add-result
 overflow_add-result c =
-    omega (arith, counted-few _ _ (rw c.in-Sound.is at c.count-c.ensures))
+    omega (arith, counted-few _ _ c.in-Ok.ensures)
 
-pub returns-in-Sound : goal.returns-in-Sound
+pub returns-in-Ok : goal.returns-in-Ok
 unfolding c_parts_of
-returns-in-Sound c = ap parts_answer (rw c.in-Sound.is at c.count-c.ensures)
+returns-in-Ok c = ap parts_answer c.in-Ok.ensures
 
-pub returns-in-Refused : goal.returns-in-Refused
+pub returns-in-Err : goal.returns-in-Err
 unfolding c_parts_of
-returns-in-Refused c = c.refused.ensures ∙ ap parts_answer (rw c.in-Refused.is at c.count-c.ensures)
+returns-in-Err c = c.refused.ensures ∙ ap parts_answer c.in-Err.ensures

@@ -17,27 +17,27 @@ counted o = answered (on_given o (λ t. given t.entries))
 
 pub overflow_cast-blocks : goal.overflow_cast-blocks
 overflow_cast-blocks c =
-    let l = few-blocks _ _ _ (sym (rw c.in-Sound.is at c.check-c.ensures)) in
+    let l = few-blocks _ _ _ (sym (rw c.in-Ok.is at c.check.ensures)) in
     search rules
 
-pub returns-in-Refused : goal.returns-in-Refused
+pub returns-in-Err : goal.returns-in-Err
 unfolding c_list_of
-returns-in-Refused c =
-    let e = rw c.in-Refused.is at c.check-c.ensures in
+returns-in-Err c =
+    let e = rw c.in-Err.is at c.check.ensures in
     record {
       says = c.refused.ensures ∙ ap counted e;
       text = rw c.listing_of.ensures (refusal-printed _ _ _ ∙ ap (printed_of _ _) e);
     }
 
-pub returns-in-Sound : goal.returns-in-Sound
+pub returns-in-Ok : goal.returns-in-Ok
 unfolding c_list_of
-returns-in-Sound c =
+returns-in-Ok c =
     let a = c.args in
-    let e = rw c.in-Sound.is at c.check-c.ensures in
+    let e = rw c.in-Ok.is at c.check.ensures in
     record {
       says = c.accepted.ensures ∙ ap counted e;
       text =
-          rw c.listing_of-in-Sound.ensures
+          rw c.listing_of-in-Ok.ensures
           (ap joined (c.start.ensures a.log.now)
           ∙ printed _ _ _ (sym e) (λ i. omega (arith, c.type_inv.book i))
           ∙ ap (printed_of _ _) e);

@@ -5,5 +5,5 @@ pub returns : goal.returns
 returns c =
     record {
       says = rw c.accepted.ensures;
-      piece = rw (c.listing_of.ensures, c.accepted.ensures, ← c.state_of.ensures) c.render-p.ensures;
+      piece = rw (c.listing_of.ensures, c.accepted.ensures, ← c.state_of.ensures) c.render-piece.ensures;
     }

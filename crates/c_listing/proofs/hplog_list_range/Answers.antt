@@ -16,23 +16,23 @@ counted o = answered (on_given o (λ t. given t.entries))
 
 pub overflow_cast-blocks : goal.overflow_cast-blocks
 overflow_cast-blocks c =
-    let l = range-blocks _ _ _ _ _ (rw c.in-Sound.is at c.check_range-c.ensures) in
+    let l = range-blocks _ _ _ _ _ (rw c.in-Ok.is at c.check_range.ensures) in
     search rules
 
-pub returns-in-Refused : goal.returns-in-Refused
+pub returns-in-Err : goal.returns-in-Err
 unfolding c_range_of
-returns-in-Refused c =
-    let e = rw c.in-Refused.is at c.check_range-c.ensures in
+returns-in-Err c =
+    let e = rw c.in-Err.is at c.check_range.ensures in
     record { says = c.refused.ensures ∙ ap counted e; text = rw c.listing_of.ensures (range-refusal _ _ _ _ _ e) }
 
-pub returns-in-Sound : goal.returns-in-Sound
+pub returns-in-Ok : goal.returns-in-Ok
 unfolding c_range_of
-returns-in-Sound c =
-    let e = rw c.in-Sound.is at c.check_range-c.ensures in
+returns-in-Ok c =
+    let e = rw c.in-Ok.is at c.check_range.ensures in
     record {
       says = c.accepted.ensures ∙ ap counted e;
       text =
-          rw c.listing_of-in-Sound.ensures
+          rw c.listing_of-in-Ok.ensures
           (ap joined c.start_range.ensures
           ∙ range-printed _ _ _ _ _ e (λ i. omega (arith, c.type_inv.book i)));
     }

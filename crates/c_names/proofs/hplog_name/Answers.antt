@@ -3,10 +3,10 @@ use mathlib.Core.Path.{ap, ◌∙◌}
 use Rattle.c_names.specs.Names.{span_answer, c_name_of}
 use Rattle.c_names.proofs.hplog_name.Goals as goal
 
-pub returns-in-At : goal.returns-in-At
+pub returns-in-Ok : goal.returns-in-Ok
 unfolding c_name_of
-returns-in-At c = c.found.ensures ∙ ap span_answer (rw c.in-At.is at c.locate-l.ensures)
+returns-in-Ok c = c.found.ensures ∙ ap span_answer c.in-Ok.ensures
 
-pub returns-in-Refused : goal.returns-in-Refused
+pub returns-in-Err : goal.returns-in-Err
 unfolding c_name_of
-returns-in-Refused c = c.refused.ensures ∙ ap span_answer (rw c.in-Refused.is at c.locate-l.ensures)
+returns-in-Err c = c.refused.ensures ∙ ap span_answer c.in-Err.ensures

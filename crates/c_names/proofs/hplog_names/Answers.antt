@@ -4,10 +4,10 @@ use Rattle.c_answer.specs.Answer.{answered}
 use Rattle.c_names.specs.Names.{c_names_of}
 use Rattle.c_names.proofs.hplog_names.Goals as goal
 
-pub returns-in-Names : goal.returns-in-Names
+pub returns-in-Ok : goal.returns-in-Ok
 unfolding c_names_of
-returns-in-Names c = c.accepted.ensures ∙ ap answered (rw c.in-Names.is at c.check-c.ensures)
+returns-in-Ok c = rw c.from.ensures at c.accepted.ensures ∙ ap answered c.in-Ok.ensures
 
-pub returns-in-Refused : goal.returns-in-Refused
+pub returns-in-Err : goal.returns-in-Err
 unfolding c_names_of
-returns-in-Refused c = c.refused.ensures ∙ ap answered (rw c.in-Refused.is at c.check-c.ensures)
+returns-in-Err c = c.refused.ensures ∙ ap answered c.in-Err.ensures

@@ -3,15 +3,15 @@ use mathlib.Core.Path.{ap, ◌∙◌}
 use Rattle.c_names.specs.Names.{number_answer, c_number_of}
 use Rattle.c_names.proofs.hplog_number.Goals as goal
 
-pub returns-in-Number : goal.returns-in-Number
+pub returns-in-Ok-Some : goal.returns-in-Ok-Some
 unfolding c_number_of
-returns-in-Number c = ap number_answer (rw c.in-Number.is at c.number_of-f.ensures)
+returns-in-Ok-Some c = rw c.from.ensures (ap number_answer (rw c.in-Ok-Some.field-0-is at c.in-Ok-Some.ensures))
 
-pub returns-in-Missing : goal.returns-in-Missing
+pub returns-in-Ok-None : goal.returns-in-Ok-None
 unfolding c_number_of
-returns-in-Missing c =
-    c.accepted.ensures ∙ ap number_answer (rw c.in-Missing.is at c.number_of-f.ensures)
+returns-in-Ok-None c =
+    c.accepted.ensures ∙ ap number_answer (rw c.in-Ok-None.field-0-is at c.in-Ok-None.ensures)
 
-pub returns-in-Refused : goal.returns-in-Refused
+pub returns-in-Err : goal.returns-in-Err
 unfolding c_number_of
-returns-in-Refused c = c.refused.ensures ∙ ap number_answer (rw c.in-Refused.is at c.number_of-f.ensures)
+returns-in-Err c = c.refused.ensures ∙ ap number_answer c.in-Err.ensures

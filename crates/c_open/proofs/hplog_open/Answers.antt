@@ -7,14 +7,14 @@ returns-then-frame-lt-FRAME c =
     let a = c.args in
     open-short a.log.now a.rows.now a.frame.now _ c.if-frame-lt-FRAME.true c.open_short.ensures
 
-pub returns-in-Refused : goal.returns-in-Refused
-returns-in-Refused c =
+pub returns-in-Err : goal.returns-in-Err
+returns-in-Err c =
     let a = c.args in
     open-refuses a.log.now a.rows.now a.frame.now _ c.if-frame-lt-FRAME.false _ _ _
-    (rw c.in-Refused.is at c.open-r.ensures.0) c.open-r.ensures.1 c.refused.ensures
+    c.in-Err.ensures.0 c.in-Err.ensures.1 c.from.ensures
 
-pub returns-in-Log : goal.returns-in-Log
-returns-in-Log c =
+pub returns-in-Ok : goal.returns-in-Ok
+returns-in-Ok c =
     let a = c.args in
     open_gives a.log.now a.rows.now a.frame.now _ c.if-frame-lt-FRAME.false _ _ _
-    (rw c.in-Log.is at c.open-r.ensures.0) c.open-r.ensures.1 c.accepted.ensures c.put_frame.ensures
+    c.in-Ok.ensures.0 c.in-Ok.ensures.1 c.accepted.ensures c.put_frame.ensures

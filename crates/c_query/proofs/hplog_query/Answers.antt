@@ -1,12 +1,8 @@
 -- `c_query::hplog_query` meets its contract. Assumes nothing.
 use native.Mathlib.Omega.{arith}
-use mathlib.Core.Path.{◌≡◌}
-use Rattle.verdict.specs.Rules.{given}
-use Rattle.query.specs.Query.{count_of}
 use Rattle.query.proofs.Rules.{count_gives, counted-few}
 use Rattle.c_query.specs.Query.{epoch, c_rows}
 use Rattle.c_query.proofs.Queries.{query-turned, query-uneven, query-refuses, query-short, query-gives}
-use Rattle.c_query.proofs.hplog_query.Goals.{In-Listed}
 use Rattle.c_query.proofs.hplog_query.Goals as goal
 
 pub returns-then-t2-t1 : goal.returns-then-t2-t1
@@ -19,35 +15,29 @@ returns-then-n-ne0 c =
     let a = c.args in
     query-uneven a.rows.now a.t1 a.t2 a.numbers.now _ c.if-t2-t1.false c.if-n-ne0.true c.refuse-then-n-ne0.ensures
 
--- so many are listed
-counted : (c : In-Listed) →
-    let a = c.args in
-    given c.in-Listed.k ≡ count_of (c_rows a.rows.now) (epoch a.t1) (epoch a.t2)
-counted c = rw c.in-Listed.is at c.count-r.ensures
-
 pub returns-then-numbers-needed : goal.returns-then-numbers-needed
 returns-then-numbers-needed c =
     let a = c.args in
-    query-short a.rows.now a.t1 a.t2 a.numbers.now _ c.if-t2-t1.false c.if-n-ne0.false _ (counted (goal.at.returns-then-numbers-needed c).In-Listed)
+    query-short a.rows.now a.t1 a.t2 a.numbers.now _ c.if-t2-t1.false c.if-n-ne0.false _ c.in-Ok.ensures
     c.if-numbers-needed.true c.refuse-then-numbers-needed.ensures
 
 pub put_numbers-requires : goal.put_numbers-requires
 put_numbers-requires c =
     let a = c.args in
     let all = c_rows a.rows.now in (
-      counted-few all (epoch a.t1) (epoch a.t2) _ (counted (goal.at.put_numbers-requires c).In-Listed),
-      omega (arith, (count_gives all (epoch a.t1) (epoch a.t2) _ (counted (goal.at.put_numbers-requires c).In-Listed)).1),
+      counted-few all (epoch a.t1) (epoch a.t2) _ c.in-Ok.ensures,
+      omega (arith, (count_gives all (epoch a.t1) (epoch a.t2) _ c.in-Ok.ensures).1),
     )
 
-pub returns-in-Refused : goal.returns-in-Refused
-returns-in-Refused c =
+pub returns-in-Err : goal.returns-in-Err
+returns-in-Err c =
     let a = c.args in
     query-refuses a.rows.now a.t1 a.t2 a.numbers.now _ c.if-t2-t1.false c.if-n-ne0.false _ _
-    (rw c.in-Refused.is at c.count-r.ensures) c.refused.ensures
+    c.in-Err.ensures c.refused.ensures
 
-pub returns-else-numbers-needed : goal.returns-else-numbers-needed
-returns-else-numbers-needed c =
+pub returns : goal.returns
+returns c =
     let a = c.args in
-    query-gives a.rows.now a.t1 a.t2 a.numbers.now _ c.if-t2-t1.false c.if-n-ne0.false _ (counted (goal.at.returns-else-numbers-needed c).In-Listed) _
+    query-gives a.rows.now a.t1 a.t2 a.numbers.now _ c.if-t2-t1.false c.if-n-ne0.false _ c.in-Ok.ensures _
     c.if-numbers-needed.false c.put_numbers.ensures
-    c.accepted.ensures
+    (rw c.from.ensures at c.accepted.ensures)

@@ -13,12 +13,11 @@ use Rattle.query.specs.Query.{chosen}
 use Rattle.query.proofs.Passes.{length-cons}
 use Rattle.c_query.specs.Query.{c_rows, numbers_bytes}
 use Rattle.c_query.proofs.Stores.{put-turn, put-end}
-use borrow.Author.Rules.{rules}
 use Rattle.c_query.proofs.put_numbers.Goals.{After-row_at-row}
 use Rattle.c_query.proofs.put_numbers.Goals as goal
 
 pub loop-i-init : goal.loop-i-init
-loop-i-init c = (search rules, refl, omega arith, refl)
+loop-i-init c = (refl, omega arith, refl)
 
 -- the numbers still to be written, by the row in hand and those behind it
 turn : (c : After-row_at-row) →
@@ -49,8 +48,7 @@ loop-i-preserved c =
     let a = c.args in
     let one = chosen a.from a.to c.loop-i.i (c.row_at-row.result ∷ []) in
     let rest = drop (c.loop-i.i + 1) (c_rows a.rows.now) in (
-      search rules,
-      rw c.put_number-at.ensures.1 (length-splice c.loop-i.out c.loop-i.at (numbers_bytes one) ∙ c.loop-i.invariant.1),
+      rw c.put_number-at.ensures.1 (length-splice c.loop-i.out c.loop-i.at (numbers_bytes one) ∙ c.loop-i.invariant.0),
       omega (
         arith,
         c.put_number-at.ensures.0,
@@ -61,11 +59,8 @@ loop-i-preserved c =
       rw (c.put_number-at.ensures.1, c.put_number-at.ensures.0)
           (put-turn a.from a.to c.loop-i.out c.loop-i.at c.loop-i.i c.row_at-row.result rest
           ∙ ap (λ (ns : List ℕ). splice c.loop-i.out c.loop-i.at (numbers_bytes ns)) (sym (turn (goal.at.loop-i-preserved c).After-row_at-row))
-          ∙ c.loop-i.invariant.3),
+          ∙ c.loop-i.invariant.2),
     )
-
-pub shape_of-out : goal.shape_of-out
-shape_of-out c = c.loop-i.invariant.1
 
 pub returns : goal.returns
 returns c =
@@ -73,4 +68,4 @@ returns c =
     sym (put-end a.from a.to c.loop-i.out c.loop-i.at c.loop-i.i)
     ∙ ap (λ (rs : List Row). splice c.loop-i.out c.loop-i.at (numbers_bytes (chosen a.from a.to c.loop-i.i rs)))
     (sym (rows_end _ a.rows.now c.loop-i.i (omega arith)))
-    ∙ c.loop-i.invariant.3
+    ∙ c.loop-i.invariant.2

@@ -7,14 +7,14 @@ returns-then-report-lt-REPORT c =
     let a = c.args in
     recover-short a.log.now a.rows.now a.report.now _ c.if-report-lt-REPORT.true c.recover_short.ensures
 
-pub returns-in-Refused : goal.returns-in-Refused
-returns-in-Refused c =
+pub returns-in-Err : goal.returns-in-Err
+returns-in-Err c =
     let a = c.args in
     recover-refuses a.log.now a.rows.now a.report.now _ c.if-report-lt-REPORT.false _ _ _
-    (rw c.in-Refused.is at c.recover-r.ensures.0) c.recover-r.ensures.1 c.refused.ensures
+    c.in-Err.ensures.0 c.in-Err.ensures.1 c.from.ensures
 
-pub returns-in-Found : goal.returns-in-Found
-returns-in-Found c =
+pub returns-in-Ok : goal.returns-in-Ok
+returns-in-Ok c =
     let a = c.args in
     recover-gives a.log.now a.rows.now a.report.now _ c.if-report-lt-REPORT.false _ _ _
-    (rw c.in-Found.is at c.recover-r.ensures.0) c.recover-r.ensures.1 c.accepted.ensures c.put_report.ensures
+    c.in-Ok.ensures.0 c.in-Ok.ensures.1 c.accepted.ensures c.put_report.ensures

@@ -6,14 +6,14 @@ use Rattle.c_recovery.proofs.recover_short.Goals as goal
 pub returns-then-rows-needed : goal.returns-then-rows-needed
 returns-then-rows-needed c =
     let a = c.args in
-    c.refuse.ensures ∙ short-rows a.log.now a.rows _ (rw c.in-Found.is at c.survey-r.ensures) c.if-rows-needed.true
+    c.refuse.ensures ∙ short-rows a.log.now a.rows _ c.in-Ok.ensures c.if-rows-needed.true
 
-pub returns-in-Refused : goal.returns-in-Refused
-returns-in-Refused c =
+pub returns-in-Err : goal.returns-in-Err
+returns-in-Err c =
     let a = c.args in
-    c.refused.ensures ∙ short-unread a.log.now a.rows _ _ (rw c.in-Refused.is at c.survey-r.ensures)
+    c.from.ensures ∙ short-unread a.log.now a.rows _ _ c.in-Err.ensures
 
 pub returns-else-rows-needed : goal.returns-else-rows-needed
 returns-else-rows-needed c =
     let a = c.args in
-    c.refuse-in-Found.ensures ∙ short-report a.log.now a.rows _ (rw c.in-Found.is at c.survey-r.ensures) c.if-rows-needed.false
+    c.refuse-in-Ok.ensures ∙ short-report a.log.now a.rows _ c.in-Ok.ensures c.if-rows-needed.false

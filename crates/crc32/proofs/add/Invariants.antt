@@ -10,6 +10,3 @@ abbrev pub invariant-loop-i : goal.invariant-loop-i
 invariant-loop-i l =
     (l.i ≤ l.n) × (length l.out ≡ length l.initial.out) × (drop l.i l.out ≡ drop l.i l.initial.out) ×
     ((k : ℕ) → k < l.i → get_or l.out k 0 ≡ bit_xor (get_or l.initial.out k 0) (get_or l.s k 0))
-
-abbrev pub decreases-loop-i : goal.decreases-loop-i
-decreases-loop-i l = l.n - l.i

@@ -12,6 +12,3 @@ abbrev pub invariant-loop-k : goal.invariant-loop-k
 invariant-loop-k l =
     (l.i ≤ l.k) × (l.k ≤ l.i + (4018 - l.i)) × (length l.ring ≡ 4018)
     × (folded far (4018 - l.k) (from l.k l.ring) (drop (l.at + (l.k - l.i)) l.s) ≡ folded far (4018 - l.i) (from l.i l.initial.ring) (drop l.at l.s))
-
-abbrev pub decreases-loop-k : goal.decreases-loop-k
-decreases-loop-k l = 4018 - l.k

@@ -10,6 +10,3 @@ abbrev pub invariant-loop-i : goal.invariant-loop-i
 invariant-loop-i l =
     (l.i ≤ l.n) × ((length l.window ≡ 1483) × (folded near (l.n - l.i) (take 300 (drop l.i l.window))
     (drop (l.at + l.i) l.s) ≡ folded near l.n (take 300 l.initial.window) (drop l.at l.s)))
-
-abbrev pub decreases-loop-i : goal.decreases-loop-i
-decreases-loop-i l = l.n - l.i

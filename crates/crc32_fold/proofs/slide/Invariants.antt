@@ -8,6 +8,3 @@ use Rattle.crc32_fold.proofs.slide.Given as goal
 abbrev pub invariant-loop-i : goal.invariant-loop-i
 invariant-loop-i l =
     (l.i ≤ 300) × (length l.window ≡ 1483) × (drop l.i l.window ≡ drop l.i l.initial.window) × (take l.i l.window ≡ take l.i (drop l.n l.initial.window))
-
-abbrev pub decreases-loop-i : goal.decreases-loop-i
-decreases-loop-i l = 300 - l.i

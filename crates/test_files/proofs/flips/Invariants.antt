@@ -4,6 +4,3 @@ use Rattle.test_files.proofs.flips.Given as goal
 
 abbrev pub invariant-loop-at : goal.invariant-loop-at
 invariant-loop-at l = (length l.file ≡ length l.initial.file) × (length l.table ≡ length l.initial.table)
-
-abbrev pub decreases-loop-at : goal.decreases-loop-at
-decreases-loop-at l = l.to - l.at

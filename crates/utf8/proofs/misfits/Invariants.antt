@@ -7,6 +7,3 @@ use Rattle.utf8.proofs.misfits.Given as goal
 
 abbrev pub invariant-loop-k : goal.invariant-loop-k
 invariant-loop-k l = (l.k ≤ l.w) × (l.any ≡ false → Fitting l.k l.s l.i)
-
-abbrev pub decreases-loop-k : goal.decreases-loop-k
-decreases-loop-k l = l.w - l.k

@@ -5,6 +5,3 @@ use Rattle.utf8.proofs.or_bytes.Given as goal
 
 abbrev pub invariant-loop-k : goal.invariant-loop-k
 invariant-loop-k l = (l.k ≤ l.w) × (l.all < 0x80 → Low l.k l.s l.i)
-
-abbrev pub decreases-loop-k : goal.decreases-loop-k
-decreases-loop-k l = l.w - l.k

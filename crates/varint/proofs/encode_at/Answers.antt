@@ -10,12 +10,12 @@ pub loop-x-preserved : goal.loop-x-preserved
 loop-x-preserved c = (
   search rules,
   search rules,
-  write-more _ _ _ _ c.loop-x.invariant.2 c.narrow.result (search rules) (search rules)
+  write-more _ _ _ _ c.loop-x.invariant.2 _ (search rules) (search rules)
       (search rules),
 )
 
 pub returns-then-p-out : goal.returns-then-p-out
-returns-then-p-out c = write-last _ _ _ _ c.loop-x.invariant.2 c.narrow-then-p-out.result (search rules) (search rules)
+returns-then-p-out c = write-last _ _ _ _ c.loop-x.invariant.2 _ (search rules) (search rules)
 
 pub returns-else-p-out : goal.returns-else-p-out
 returns-else-p-out c = write-past _ _ _ _ c.loop-x.invariant.2 (search rules)

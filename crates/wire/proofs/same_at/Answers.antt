@@ -3,8 +3,8 @@ use mathlib.Core.Path.{sym, ◌∙◌}
 use Rattle.wire.proofs.Compares.{part-short, rest-agrees, rest-differs, rest-none}
 use Rattle.wire.proofs.same_at.Goals as goal
 
-pub returns-then-minus-xs : goal.returns-then-minus-xs
-returns-then-minus-xs c =
+pub returns-then-saturating_sub-xs : goal.returns-then-saturating_sub-xs
+returns-then-saturating_sub-xs c =
     let a = c.args in
     sym (part-short a.s.now a.at a.xs.now (omega arith))
 

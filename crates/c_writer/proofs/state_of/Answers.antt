@@ -1,7 +1,0 @@
--- `c_writer::state_of` meets its contract. Assumes nothing.
-use Rattle.c_writer.specs.State.{state_of}
-use Rattle.c_writer.proofs.state_of.Goals as goal
-
-pub returns : goal.returns
-unfolding state_of
-returns c = rw c.number_of.ensures
