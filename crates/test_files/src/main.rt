@@ -14,7 +14,7 @@ const STDIN_FILENO: i32 = 0;
 // The first n bytes, with one of them one more while they are looked at.
 fn flip(file: &mut [u8], n: usize, at: usize, table: &mut [u8]) {
     let b = wire::u8_at(&*file, at);
-    wire::put_u8(file, at, std::num::wrapping_add_u8(b, 1));
+    wire::put_u8(file, at, b.wrapping_add(1));
     test_views::glance_at(at, wire::part_at(&*file, 0, n), table);
     wire::put_u8(file, at, b);
 }
@@ -30,10 +30,10 @@ fn follow(line: &[u8], file: &mut [u8], n: usize, table: &mut [u8]) -> usize {
     if !test_text::is_command(line) {
         return n;
     }
-    match test_text::place(b"file append flips", test_text::word(line, 0)) {
-        0 => test_views::put(file, 0, test_text::word(line, 1)),
-        1 => test_views::put(file, n, test_text::word(line, 1)),
-        2 => {
+    match test_text::word(line, 0) {
+        b"file" => test_views::put(file, 0, test_text::word(line, 1)),
+        b"append" => test_views::put(file, n, test_text::word(line, 1)),
+        b"flips" => {
             flips(
                 file,
                 n,
@@ -53,12 +53,8 @@ fn follow(line: &[u8], file: &mut [u8], n: usize, table: &mut [u8]) -> usize {
 // Each line of the input.
 fn run(input: &[u8], file: &mut [u8], table: &mut [u8]) {
     let mut n = 0;
-    let mut at = 0;
-    while at < input.len() {
-        let end = test_text::find(input, at, b'\n');
-        let line = &input[at..end];
+    for line in input.split(|b| *b == b'\n') {
         n = follow(line, file, n, table);
-        at = test_text::past(input, end);
     }
 }
 

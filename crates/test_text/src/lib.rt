@@ -10,13 +10,7 @@ use verdict::Refusal;
 pub fn reach(out: &[u8], at: usize, n: usize) -> usize
     ensures { IsPrefixLen result out.now }
 {
-    if out.len() <= at {
-        return out.len();
-    }
-    if n < out.len() - at {
-        return at + n;
-    }
-    out.len()
+    at.saturating_add(n).min(out.len())
 }
 
 // Puts s into a buffer from a place on, as much as fits, and says where it ends: here and below a text that doesn't fit
@@ -44,17 +38,13 @@ pub fn with_hex(out: &mut [u8], at: usize, n: u64, width: usize) -> usize
     with(out, at, &digits[..k])
 }
 
-fn wide(x: u8) -> u64 {
-    x as u64
-}
-
 // The bytes of s, two hexadecimal digits each.
 pub fn with_bytes(out: &mut [u8], at: usize, s: &[u8]) -> usize
     ensures { IsPrefixLen result out.new }
 {
     let mut end = reach(&*out, at, 0);
-    for i in 0..s.len() {
-        end = with_hex(out, end, wide(s[i]), 2);
+    for b in s {
+        end = with_hex(out, end, u64::from(*b), 2);
     }
     end
 }
@@ -64,9 +54,64 @@ pub fn with_refusal(out: &mut [u8], r: Refusal) -> usize
     ensures { IsPrefixLen result out.new }
 {
     let a = with(out, 0, b"refused ");
-    let b = with_decimal(out, a, r.number as u64);
+    let b = with_decimal(out, a, u64::from(r.number));
     let c = with(out, b, b" ");
     with_decimal(out, c, r.place)
+}
+
+// The value of a hexadecimal digit, and 0 of anything else.
+fn digit(c: u8) -> u8
+    ensures { result < 16 }
+{
+    match c {
+        b'0'..=b'9' => c - b'0',
+        b'a'..=b'f' => c - b'a' + 10,
+        b'A'..=b'F' => c - b'A' + 10,
+        _ => 0,
+    }
+}
+
+// Puts the bytes that s spells at the start of out, as many as fit, and says how many.
+pub fn unhex(s: &[u8], out: &mut [u8]) -> usize
+    ensures { IsPrefixLen result out.new }
+{
+    let n = (s.len() / 2).min(out.len());
+    for (b, pair) in out.iter_mut().zip(s.chunks_exact(2)) {
+        *b = digit(pair[0]) * 16 + digit(pair[1]);
+    }
+    n
+}
+
+// The word behind so many spaces; empty where there is none.
+pub fn word(line: &[u8], i: usize) -> &[u8] {
+    line.split(|b| *b == b' ').nth(i).unwrap_or(&[])
+}
+
+// A number with one decimal digit more: one of 64 bits.
+fn with_digit(n: u64, d: u64) -> u64 {
+    if 1_844_674_407_370_955_161 < n {
+        return n;
+    }
+    (n * 10).wrapping_add(d)
+}
+
+// The number that s spells in decimal digits.
+pub fn number(s: &[u8]) -> u64 {
+    s.iter().fold(0, |n, c| with_digit(n, u64::from(digit(*c))))
+}
+
+// The number that the word behind so many spaces spells.
+pub fn number_at(line: &[u8], i: usize) -> u64 {
+    number(word(line, i))
+}
+
+pub fn size_at(line: &[u8], i: usize) -> usize {
+    number_at(line, i) as usize
+}
+
+// Whether a line isn't empty and doesn't start with '#'.
+pub fn is_command(line: &[u8]) -> bool {
+    !matches!(line, [] | [b'#', ..])
 }
 
 // Where b stands first from a place on, or the length.
@@ -88,89 +133,14 @@ pub fn past(s: &[u8], at: usize) -> usize
     if at < s.len() { at + 1 } else { s.len() }
 }
 
-// The value of a hexadecimal digit, and 0 of anything else.
-fn digit(c: u8) -> u8
-    ensures { result < 16 }
-{
-    match c {
-        b'0'..=b'9' => c - b'0',
-        b'a'..=b'f' => c - b'a' + 10,
-        b'A'..=b'F' => c - b'A' + 10,
-        _ => 0,
-    }
-}
-
-fn least(a: usize, b: usize) -> usize
-    ensures { result ≡ min a b }
-{
-    if a < b { a } else { b }
-}
-
-// Puts the bytes that s spells at the start of out, as many as fit, and says how many.
-pub fn unhex(s: &[u8], out: &mut [u8]) -> usize
-    ensures { IsPrefixLen result out.new }
-{
-    let n = least(s.len() / 2, out.len());
-    for i in 0..n {
-        out[i] = digit(s[i * 2]) * 16 + digit(s[i * 2 + 1]);
-    }
-    n
-}
-
-// The word behind so many spaces; empty where there is none.
-pub fn word(line: &[u8], i: usize) -> &[u8] {
-    let mut at = 0;
-    let mut left = i;
-    while 0 < left {
-        at = past(line, find(line, at, b' '));
-        left -= 1;
-    }
-    let end = find(line, at, b' ');
-    wire::part_at(line, at, end - at)
-}
-
-// A number with one decimal digit more: one of 64 bits.
-fn with_digit(n: u64, d: u64) -> u64 {
-    if 1_844_674_407_370_955_161 < n {
-        return n;
-    }
-    std::num::wrapping_add_u64(n * 10, d)
-}
-
-// The number that s spells in decimal digits.
-pub fn number(s: &[u8]) -> u64 {
-    let mut n: u64 = 0;
-    for i in 0..s.len() {
-        n = with_digit(n, wide(digit(s[i])));
-    }
-    n
-}
-
-// The number that the word behind so many spaces spells.
-pub fn number_at(line: &[u8], i: usize) -> u64 {
-    number(word(line, i))
-}
-
-pub fn size_at(line: &[u8], i: usize) -> usize {
-    number_at(line, i) as usize
-}
-
 // The number of a name among the first 32 of names with a space between them, or 32.
 pub fn place(names: &[u8], name: &[u8]) -> usize {
     let mut i = 0;
     while i < 32 {
-        if wire::equal(word(names, i), name) {
+        if word(names, i) == name {
             return i;
         }
         i += 1;
     }
     i
-}
-
-// Whether a line isn't empty and doesn't start with '#'.
-pub fn is_command(line: &[u8]) -> bool {
-    if line.len() == 0 {
-        return false;
-    }
-    line[0] != b'#'
 }

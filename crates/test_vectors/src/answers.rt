@@ -12,16 +12,13 @@ use verdict::Refusal;
 pub fn crc32(s: &[u8], out: &mut [u8]) -> usize
     ensures { IsPrefixLen result out.new }
 {
-    test_text::with_hex(out, 0, crc32::checksum(s) as u64, 8)
+    test_text::with_hex(out, 0, u64::from(crc32::checksum(s)), 8)
 }
 
 pub fn utf8(s: &[u8], out: &mut [u8]) -> usize
     ensures { IsPrefixLen result out.new }
 {
-    if utf8::valid(s) {
-        return test_text::with(out, 0, b"valid");
-    }
-    test_text::with(out, 0, b"invalid")
+    test_text::with(out, 0, if utf8::valid(s) { b"valid" } else { b"invalid" })
 }
 
 fn shortest(value: u64, form: &mut [u8]) -> usize
@@ -59,34 +56,32 @@ fn labelled(l: Result<bool, Refusal>, out: &mut [u8]) -> usize
     ensures { IsPrefixLen result out.new }
 {
     match l {
-        Ok(shortened) => {
-            if shortened {
-                return test_text::with(out, 0, b"shortened");
-            }
-            test_text::with(out, 0, b"written")
-        }
+        Ok(true) => test_text::with(out, 0, b"shortened"),
+        Ok(false) => test_text::with(out, 0, b"written"),
         Err(r) => test_text::with_refusal(out, r),
     }
+}
+
+// What the label of a name is, and the panel that was lent for it afterwards.
+fn label_in(s: &[u8], panel: &mut [u8], out: &mut [u8]) -> usize
+    ensures { IsPrefixLen result out.new }
+{
+    let l = label::label(s, panel);
+    let a = labelled(l, out);
+    let b = test_text::with(out, a, b" ");
+    test_text::with_bytes(out, b, &*panel)
 }
 
 pub fn label(s: &[u8], out: &mut [u8]) -> usize
     ensures { IsPrefixLen result out.new }
 {
-    let mut panel = [0xAAu8; 20];
-    let l = label::label(s, &mut panel);
-    let a = labelled(l, out);
-    let b = test_text::with(out, a, b" ");
-    test_text::with_bytes(out, b, &panel)
+    label_in(s, &mut [0xAA; 20], out)
 }
 
 pub fn panel(s: &[u8], out: &mut [u8]) -> usize
     ensures { IsPrefixLen result out.new }
 {
-    let mut panel = [0xAAu8; 15];
-    let l = label::label(s, &mut panel);
-    let a = labelled(l, out);
-    let b = test_text::with(out, a, b" ");
-    test_text::with_bytes(out, b, &panel)
+    label_in(s, &mut [0xAA; 15], out)
 }
 
 pub fn names(s: &[u8], out: &mut [u8]) -> usize
@@ -94,9 +89,16 @@ pub fn names(s: &[u8], out: &mut [u8]) -> usize
 {
     let c = names::check(s);
     match c {
-        Ok(n) => test_text::with_decimal(out, 0, n as u64),
+        Ok(n) => test_text::with_decimal(out, 0, u64::from(n)),
         Err(r) => test_text::with_refusal(out, r),
     }
+}
+
+// How long a dictionary of n names is that is made, and where name n stands in a longer one.
+fn made_len(n: u32) -> usize
+    ensures { result ≤ 4 + 7 * 4294967296 }
+{
+    4 + n as usize * 7
 }
 
 // Name i of a dictionary that is made: its id, its length and three letters.
@@ -114,24 +116,13 @@ fn put_name(dictionary: &mut [u8], at: usize, i: u32, letters: u32)
 fn letters(i: u32, n: u32, kind: u8) -> u32
     requires { i < n }
 {
-    if kind == 1 {
-        if i + 1 == n {
-            return 0;
-        }
-    }
-    i
+    if kind == 1 && i + 1 == n { 0 } else { i }
 }
 
 fn fill(dictionary: &mut [u8], n: u32, kind: u8) {
-    let mut at: usize = 4;
     for i in 0..n {
-        put_name(dictionary, at, i, letters(i, n, kind));
-        at += 7;
+        put_name(dictionary, made_len(i), i, letters(i, n, kind));
     }
-}
-
-fn made_len(n: u32) -> usize {
-    4 + n as usize * 7
 }
 
 pub fn many(s: &[u8], out: &mut [u8]) -> usize
@@ -177,11 +168,11 @@ pub fn name(s: &[u8], out: &mut [u8]) -> usize
 pub fn number(s: &[u8], out: &mut [u8]) -> usize
     ensures { IsPrefixLen result out.new }
 {
-    let n = wire::u8_at(s, 0) as usize;
+    let n = usize::from(wire::u8_at(s, 0));
     let dictionary = wire::part_at(s, 1 + n, s.len());
     let f = name_search::number_of(dictionary, wire::part_at(s, 1, n));
     match f {
-        Ok(Some(i)) => test_text::with_decimal(out, 0, i as u64),
+        Ok(Some(i)) => test_text::with_decimal(out, 0, u64::from(i)),
         Ok(None) => test_text::with(out, 0, b"missing"),
         Err(r) => test_text::with_refusal(out, r),
     }
@@ -191,16 +182,12 @@ pub fn number(s: &[u8], out: &mut [u8]) -> usize
 fn chosen(n: u32, numbers: &[u32], out: &mut [u8]) -> usize
     ensures { IsPrefixLen result out.new }
 {
-    let mut end = test_text::with_decimal(out, 0, n as u64);
-    for i in 0..numbers.len() {
+    let mut end = test_text::with_decimal(out, 0, u64::from(n));
+    for i in numbers {
         end = test_text::with(out, end, b" ");
-        end = test_text::with_decimal(out, end, wide(numbers[i]));
+        end = test_text::with_decimal(out, end, u64::from(*i));
     }
     end
-}
-
-fn wide(x: u32) -> u64 {
-    x as u64
 }
 
 fn queried(q: Result<u32, Refusal>, numbers: &[u32], out: &mut [u8]) -> usize
@@ -254,47 +241,26 @@ fn counted(n: u64, last: Epoch, out: &mut [u8]) -> usize
     test_text::with_decimal(out, b, last.0)
 }
 
-// What stopped a scan: 0 at place 0 for a clean end.
-fn stop_of(v: Result<(), Refusal>) -> Refusal {
-    match v {
-        Ok(()) => Refusal {
-            number: 0,
-            place: 0,
-        },
-        Err(r) => r,
-    }
-}
-
-fn wholeness(whole: bool, out: &mut [u8], at: usize) -> usize
-    ensures { IsPrefixLen result out.new }
-{
-    if whole {
-        return test_text::with(out, at, b" whole ");
-    }
-    test_text::with(out, at, b" none ")
-}
-
 // How many blocks there are, and the end of the last.
 fn found(r: Report, out: &mut [u8]) -> usize
     ensures { IsPrefixLen result out.new }
 {
-    let a = test_text::with_decimal(out, 0, r.blocks as u64);
+    let a = test_text::with_decimal(out, 0, u64::from(r.blocks));
     let b = test_text::with(out, a, b" ");
     let c = test_text::with_decimal(out, b, r.end);
     test_text::with(out, c, b" ")
 }
 
-// Then what stopped the scan, whether the dictionary is whole, and the lent table.
+// Then what stopped the scan, 0 at place 0 for a clean end, whether the dictionary is whole, and the lent table.
 fn reported(r: Report, table: &[u8], out: &mut [u8]) -> usize
     ensures { IsPrefixLen result out.new }
 {
-    let stop = r.stop;
-    let w = stop_of(stop);
+    let (number, place) = r.stop.map_or_else(|w| (w.number, w.place), |()| (0, 0));
     let a = found(r, out);
-    let b = test_text::with_decimal(out, a, w.number as u64);
+    let b = test_text::with_decimal(out, a, u64::from(number));
     let c = test_text::with(out, b, b" ");
-    let d = test_text::with_decimal(out, c, w.place);
-    let e = wholeness(r.whole, out, d);
+    let d = test_text::with_decimal(out, c, place);
+    let e = test_text::with(out, d, if r.whole { b" whole " } else { b" none " });
     test_text::with_bytes(out, e, table)
 }
 

@@ -25,51 +25,23 @@ pub enum Group {
     Unknown,
 }
 
-fn other_named(name: &[u8]) -> Group {
-    if wire::equal(name, b"crc32") {
-        return Group::Crc32;
-    }
-    if wire::equal(name, b"utf8") {
-        return Group::Utf8;
-    }
-    if wire::equal(name, b"varint") {
-        return Group::Varint;
-    }
-    if wire::equal(name, b"slices") {
-        return Group::Slices;
-    }
-    if wire::equal(name, b"entries") {
-        return Group::Entries;
-    }
-    if wire::equal(name, b"recover") {
-        return Group::Recover;
-    }
-    Group::Unknown
-}
-
 pub fn named(name: &[u8]) -> Group {
-    if wire::equal(name, b"label") {
-        return Group::Label;
+    match name {
+        b"crc32" => Group::Crc32,
+        b"utf8" => Group::Utf8,
+        b"varint" => Group::Varint,
+        b"label" => Group::Label,
+        b"panel" => Group::Panel,
+        b"names" => Group::Names,
+        b"many" => Group::Many,
+        b"name" => Group::Name,
+        b"number" => Group::Number,
+        b"query" => Group::Query,
+        b"slices" => Group::Slices,
+        b"entries" => Group::Entries,
+        b"recover" => Group::Recover,
+        _ => Group::Unknown,
     }
-    if wire::equal(name, b"panel") {
-        return Group::Panel;
-    }
-    if wire::equal(name, b"names") {
-        return Group::Names;
-    }
-    if wire::equal(name, b"many") {
-        return Group::Many;
-    }
-    if wire::equal(name, b"name") {
-        return Group::Name;
-    }
-    if wire::equal(name, b"number") {
-        return Group::Number;
-    }
-    if wire::equal(name, b"query") {
-        return Group::Query;
-    }
-    other_named(name)
 }
 
 // Puts the library's answer to an input into a buffer, and says how long it is.
@@ -94,77 +66,59 @@ pub fn answer(group: Group, s: &[u8], out: &mut [u8]) -> usize
     }
 }
 
-// A group's place in a tally.
-fn place(group: Group) -> usize
-    ensures { result < 14 }
-{
-    match group {
-        Group::Crc32 => 0,
-        Group::Utf8 => 1,
-        Group::Varint => 2,
-        Group::Label => 3,
-        Group::Panel => 4,
-        Group::Names => 5,
-        Group::Many => 6,
-        Group::Name => 7,
-        Group::Number => 8,
-        Group::Query => 9,
-        Group::Slices => 10,
-        Group::Entries => 11,
-        Group::Recover => 12,
-        Group::Unknown => 13,
-    }
+// How many cases a group has, and how many of them agree.
+#[derive(Clone, Copy)]
+pub struct Count {
+    agree: u64,
+    cases: u64,
 }
 
-// How many cases each group has, and how many of them agree.
+// The count of each group, at its place among the groups.
 #[derive(Clone, Copy)]
-pub struct Tally {
-    pub agree: [u64; 14],
-    pub cases: [u64; 14],
-}
+pub struct Tally([Count; 14]);
 
 pub fn none() -> Tally {
-    Tally {
-        agree: [0; 14],
-        cases: [0; 14],
-    }
+    Tally([Count { agree: 0, cases: 0 }; 14])
 }
 
-pub fn counted(t: Tally, group: Group, agrees: bool) -> Tally {
-    let i = place(group);
-    let mut next = t;
-    let cases = next.cases[i];
-    next.cases[i] = std::num::wrapping_add_u64(cases, 1);
-    if agrees {
-        let agree = next.agree[i];
-        next.agree[i] = std::num::wrapping_add_u64(agree, 1);
-    }
-    next
+pub fn counted(mut t: Tally, group: Group, agrees: bool) -> Tally {
+    let count = &mut t.0[group as usize];
+    count.cases = count.cases.wrapping_add(1);
+    count.agree = count.agree.wrapping_add(u64::from(agrees));
+    t
 }
 
-fn print_count(name: &[u8], t: Tally, group: Group) {
-    let i = place(group);
+fn print_count(name: &[u8], count: Count) {
     io::write_all(STDOUT_FILENO, name);
     io::write_all(STDOUT_FILENO, b": ");
-    io::print_decimal(STDOUT_FILENO, t.agree[i]);
+    io::print_decimal(STDOUT_FILENO, count.agree);
     io::write_all(STDOUT_FILENO, b" of ");
-    io::print_decimal(STDOUT_FILENO, t.cases[i]);
+    io::print_decimal(STDOUT_FILENO, count.cases);
     io::write_all(STDOUT_FILENO, b" agree\n");
 }
 
+// The groups' names, as they are printed.
+fn names() -> [&'static [u8]; 14] {
+    [
+        b"crc32",
+        b"utf8",
+        b"varint",
+        b"label",
+        b"panel",
+        b"names",
+        b"many",
+        b"name",
+        b"number",
+        b"query",
+        b"slices",
+        b"entries",
+        b"recover",
+        b"no such group",
+    ]
+}
+
 pub fn report(t: Tally) {
-    print_count(b"crc32", t, Group::Crc32);
-    print_count(b"utf8", t, Group::Utf8);
-    print_count(b"varint", t, Group::Varint);
-    print_count(b"label", t, Group::Label);
-    print_count(b"panel", t, Group::Panel);
-    print_count(b"names", t, Group::Names);
-    print_count(b"many", t, Group::Many);
-    print_count(b"name", t, Group::Name);
-    print_count(b"number", t, Group::Number);
-    print_count(b"query", t, Group::Query);
-    print_count(b"slices", t, Group::Slices);
-    print_count(b"entries", t, Group::Entries);
-    print_count(b"recover", t, Group::Recover);
-    print_count(b"no such group", t, Group::Unknown);
+    for (name, count) in names().iter().zip(t.0) {
+        print_count(name, count);
+    }
 }

@@ -51,40 +51,30 @@ fn judge(line: &[u8], name: &[u8], input: &[u8], wanted: &[u8], tally: Tally) ->
     let n = test_text::unhex(input, &mut bytes);
     let mut out = io::buffer();
     let k = groups::answer(group, &bytes[..n], &mut out);
-    let agrees = wire::equal(&out[..k], wanted);
+    let got = &out[..k];
+    let agrees = got == wanted;
     if !agrees {
-        complain(line, &out[..k]);
+        complain(line, got);
     }
     groups::counted(tally, group, agrees)
 }
 
 // A line's words: up to the first space, up to the second, and the rest.
 fn parse(line: &[u8], tally: Tally) -> Tally {
-    let a = test_text::find(line, 0, b' ');
-    let b = test_text::past(line, a);
-    let c = test_text::find(line, b, b' ');
-    let d = test_text::past(line, c);
-    judge(line, &line[..a], &line[b..c], &line[d..], tally)
-}
-
-fn is_case(line: &[u8]) -> bool {
-    if line.len() == 0 {
-        return false;
-    }
-    line[0] != b'#'
+    let mut words = line.splitn(3, |b| *b == b' ');
+    let name = words.next().unwrap_or(&[]);
+    let input = words.next().unwrap_or(&[]);
+    let wanted = words.next().unwrap_or(&[]);
+    judge(line, name, input, wanted, tally)
 }
 
 // Each line of the input.
 fn run(input: &[u8]) -> Tally {
     let mut tally = groups::none();
-    let mut at = 0;
-    while at < input.len() {
-        let end = test_text::find(input, at, b'\n');
-        let line = &input[at..end];
-        if is_case(line) {
+    for line in input.split(|b| *b == b'\n') {
+        if test_text::is_command(line) {
             tally = parse(line, tally);
         }
-        at = test_text::past(input, end);
     }
     tally
 }

@@ -21,43 +21,6 @@ ghost use Rattle.std.specs.Prelude.{◌≡◌, length};
 
 pub use reading::glance_at;
 
-#[derive(Clone, Copy)]
-enum Looking {
-    Open,
-    OpenIn,
-    Recover,
-    RecoverIn,
-    Scan,
-    Glance,
-    Cuts,
-    Stored,
-    StoredAt,
-    Dictionary,
-    Bytes,
-    Table,
-    Unknown,
-}
-
-fn named(name: &[u8]) -> Looking {
-    let names =
-        b"open open-in recover recover-in scan glance cuts stored stored-at dictionary bytes table";
-    match test_text::place(names, name) {
-        0 => Looking::Open,
-        1 => Looking::OpenIn,
-        2 => Looking::Recover,
-        3 => Looking::RecoverIn,
-        4 => Looking::Scan,
-        5 => Looking::Glance,
-        6 => Looking::Cuts,
-        7 => Looking::Stored,
-        8 => Looking::StoredAt,
-        9 => Looking::Dictionary,
-        10 => Looking::Bytes,
-        11 => Looking::Table,
-        _ => Looking::Unknown,
-    }
-}
-
 fn table_sum(table: &[u8]) {
     print::say(b"table");
     print::sum(table);
@@ -72,22 +35,21 @@ pub fn number32_at(line: &[u8], i: usize) -> u32 {
 // The command of a line, on a file and a table.
 pub fn look(line: &[u8], f: &[u8], table: &mut [u8]) {
     let n = test_text::number_at(line, 1);
-    let all = rows::STRIDE * 4096;
-    let c = named(test_text::word(line, 0));
-    match c {
-        Looking::Open => reading::open_in(f, table, all),
-        Looking::OpenIn => reading::open_in(f, table, n as usize),
-        Looking::Recover => reading::recover_in(f, table, all),
-        Looking::RecoverIn => reading::recover_in(f, table, n as usize),
-        Looking::Scan => print::scanned(blocks::scan(f, n as usize)),
-        Looking::Glance => reading::glance(f, table),
-        Looking::Cuts => reading::cuts(f, table),
-        Looking::Stored => reading::stored(f, table, n),
-        Looking::StoredAt => reading::stored_at(f, n, number32_at(line, 2)),
-        Looking::Dictionary => reading::dictionary(f, table),
-        Looking::Bytes => print::bytes_line(f),
-        Looking::Table => table_sum(&*table),
-        Looking::Unknown => print::say(b"no such command\n"),
+    let all = table.len();
+    match test_text::word(line, 0) {
+        b"open" => reading::open_in(f, table, all),
+        b"open-in" => reading::open_in(f, table, n as usize),
+        b"recover" => reading::recover_in(f, table, all),
+        b"recover-in" => reading::recover_in(f, table, n as usize),
+        b"scan" => print::scanned(blocks::scan(f, n as usize)),
+        b"glance" => reading::glance(f, table),
+        b"cuts" => reading::cuts(f, table),
+        b"stored" => reading::stored(f, table, n),
+        b"stored-at" => reading::stored_at(f, n, number32_at(line, 2)),
+        b"dictionary" => reading::dictionary(f, table),
+        b"bytes" => print::bytes_line(f),
+        b"table" => table_sum(&*table),
+        _ => print::say(b"no such command\n"),
     }
 }
 

@@ -45,10 +45,15 @@ pub fn bytes_line(s: &[u8]) {
     end_line();
 }
 
+// A refusal's number and its place.
+fn numbers(r: Refusal) {
+    number(u64::from(r.number));
+    number(r.place);
+}
+
 pub fn refusal(r: Refusal) {
     say(b"refused");
-    number(r.number as u64);
-    number(r.place);
+    numbers(r);
 }
 
 pub fn refusal_line(r: Refusal) {
@@ -59,23 +64,65 @@ pub fn refusal_line(r: Refusal) {
 // The CRC-32 of a lent buffer, behind a space.
 pub fn sum(s: &[u8]) {
     say(b" ");
-    io::print_hex(STDOUT_FILENO, crc32::checksum(s) as u64, 8);
+    io::print_hex(STDOUT_FILENO, u64::from(crc32::checksum(s)), 8);
 }
 
-fn log(log: Frame) {
-    say(b"log");
-    number(log.dictionary);
-    number(log.stored as u64);
-    number(log.index);
-    number(log.blocks);
-    time(log.first);
-    time(log.last);
+// What the library finds of a file whose rows it hands out.
+pub trait Found: Copy {
+    fn say(self);
+
+    fn blocks(self) -> usize;
 }
 
-pub fn opened(o: Result<Frame, Refusal>) {
-    match o {
-        Ok(l) => log(l),
+impl Found for Frame {
+    fn say(self) {
+        say(b"log");
+        number(self.dictionary);
+        number(u64::from(self.stored));
+        number(self.index);
+        number(self.blocks);
+        time(self.first);
+        time(self.last);
+    }
+
+    fn blocks(self) -> usize {
+        self.blocks as usize
+    }
+}
+
+impl Found for Report {
+    fn say(self) {
+        say(b"found");
+        blocks_found(self.blocks, self.end, self.stop);
+        say(if self.whole { b" whole" } else { b" none" });
+    }
+
+    fn blocks(self) -> usize {
+        self.blocks as usize
+    }
+}
+
+pub fn answer<F: Found>(a: Result<F, Refusal>) {
+    match a {
+        Ok(found) => found.say(),
         Err(r) => refusal(r),
+    }
+}
+
+// An answer on a line, and then the rows of the table that was lent, a line each.
+pub fn with_rows<F: Found>(a: Result<F, Refusal>, table: &[u8]) {
+    answer(a);
+    end_line();
+    if let Ok(found) = a {
+        rows(table, found.blocks());
+    }
+}
+
+// A part of a file, or why there is none.
+pub fn part(a: Result<&[u8], Refusal>) {
+    match a {
+        Ok(s) => bytes_line(s),
+        Err(r) => refusal_line(r),
     }
 }
 
@@ -83,47 +130,21 @@ pub fn opened(o: Result<Frame, Refusal>) {
 fn stop(v: Result<(), Refusal>) {
     match v {
         Ok(()) => say(b" 0 0"),
-        Err(r) => {
-            number(r.number as u64);
-            number(r.place);
-        }
+        Err(r) => numbers(r),
     }
-}
-
-fn wholeness(whole: bool) {
-    if whole {
-        say(b" whole");
-        return;
-    }
-    say(b" none");
 }
 
 // How many blocks, the end of the last, and what stopped the scan.
 fn blocks_found(blocks: u32, end: u64, v: Result<(), Refusal>) {
-    number(blocks as u64);
+    number(u64::from(blocks));
     number(end);
     stop(v);
 }
 
-fn report(r: Report) {
-    let v = r.stop;
-    say(b"found");
-    blocks_found(r.blocks, r.end, v);
-    wholeness(r.whole);
-}
-
 pub fn scanned(s: Scanned) {
-    let v = s.stop;
     say(b"scanned");
-    blocks_found(s.blocks, s.end, v);
+    blocks_found(s.blocks, s.end, s.stop);
     end_line();
-}
-
-pub fn recovered(r: Result<Report, Refusal>) {
-    match r {
-        Ok(f) => report(f),
-        Err(w) => refusal(w),
-    }
 }
 
 fn row(r: Row) {
@@ -131,12 +152,12 @@ fn row(r: Row) {
     time(r.start);
     time(r.end);
     number(r.offset);
-    number(r.stored as u64);
+    number(u64::from(r.stored));
     end_line();
 }
 
 // The first n rows of a table, a line each.
-pub fn rows(table: &[u8], n: usize) {
+fn rows(table: &[u8], n: usize) {
     for i in 0..n {
         row(rows::row_at(table, i));
     }

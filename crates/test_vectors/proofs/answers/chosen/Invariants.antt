@@ -1,4 +1,4 @@
-use Rattle.std.proofs.Common.{◌≡◌, ◌-◌, length}
+use Rattle.std.proofs.Common.{◌≡◌, length}
 use Rattle.io.specs.Counts.{IsPrefixLen}
 use Rattle.test_vectors.proofs.answers.chosen.Given as goal
 
