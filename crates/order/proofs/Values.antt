@@ -74,7 +74,7 @@ module _ (x y : List ℕ) (n k w : ℕ) (g : Agree x y n k) (h : w ≤ k) where
       let l = g.within in
       record { within = omega arith; top = rw (next-part x, next-part y, g.top, e) }
 
-  part-decides : Bytes x → le_at w x (k - w) < le_at w y (k - w) → le_at n x 0 < le_at n y 0
+  pub part-decides : Bytes x → le_at w x (k - w) < le_at w y (k - w) → le_at n x 0 < le_at n y 0
   part-decides bytes l =
       let i = g.within in
       let t : le_at (n - (k - w)) x (k - w) < le_at (n - (k - w)) y (k - w) =
@@ -82,7 +82,7 @@ module _ (x y : List ℕ) (n k w : ℕ) (g : Agree x y n k) (h : w ≤ k) where
       let o = outweighs (256 ^ (k - w)) (le_at (k - w) x 0) _ _ (le_at-below (k - w) x 0 bytes) t in
       rw (parts x n (k - w) (omega arith), parts y n (k - w) (omega arith)) (omega arith)
 
-agree-turned : (x y : List ℕ) (n k : ℕ) → Agree x y n k → Agree y x n k
+pub agree-turned : (x y : List ℕ) (n k : ℕ) → Agree x y n k → Agree y x n k
 agree-turned x y n k g = record { within = g.within; top = sym g.top }
 
 -- where the next w bytes differ they decide
@@ -104,7 +104,7 @@ all-agree x y n k g h =
 -- ---- values
 
 -- a shorter string has a smaller value
-value-shorter : (x y : List ℕ) → Bytes x → length x < length y → value_of x < value_of y
+pub value-shorter : (x y : List ℕ) → Bytes x → length x < length y → value_of x < value_of y
 unfolding value_of
 value-shorter x y bytes h =
     omega (arith, le_at-below (length x) x 0 bytes, pow-suc 256 (length x), pow-le-pow_right {n = 256} (lit< tt) h)
